@@ -1,0 +1,10 @@
+pub mod Logic
+pub mod Search
+pub mod Counting
+pub mod Sets
+pub mod Turns
+pub mod Reading
+pub mod Runs
+pub mod Gaps
+pub mod Whole
+pub mod Bounds

@@ -1,0 +1,9 @@
+pub mod Tells
+pub mod Sets
+pub mod Wheels
+pub mod Best
+pub mod Paths
+pub mod Flows
+pub mod Numbers
+pub mod Orders
+pub mod Promises
