@@ -3,7 +3,7 @@
 use mathlib.Core.Path.{_≡_}
 use mathlib.Core.Bool.{Bool, _&&_, cond}
 use mathlib.Core.List.{List}
-use Prim.Native.Nat.{ℕ, _+_, _-_, _*_, _%_, _≤_, _<_}
+use Prim.Native.Nat.{ℕ, _+_, _-_, _*_, _/_, _%_, _≤_, _<_}
 use lib.ListN.{getD, length}
 use lib.Dec.{eqb}
 use Rattle.rules.specs.declared.Wheel.{Wheel}
@@ -13,6 +13,10 @@ use Rattle.rules.specs.Sets.{has, any, all, setOf}
 pub record Chip : Type 0 where
   pub wheel : Wheel
   pub channels : ℕ
+
+-- the chip that a wheel and a table of 64 bytes for each channel are of
+abbrev pub chipOf : Wheel → List ℕ → Chip
+chipOf w t = record { wheel = w; channels = length t / 64 }
 
 -- "the table has 64 bytes for each of C channels, channel c starting at byte 64 × c": cell j of channel c
 unfoldable pub cell : List ℕ → ℕ → ℕ → ℕ
