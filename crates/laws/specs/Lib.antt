@@ -8,3 +8,7 @@ pub mod Runs
 pub mod Gaps
 pub mod Whole
 pub mod Bounds
+pub mod Order
+pub mod Answers
+pub mod Tests
+pub mod Bench
