@@ -2,7 +2,7 @@
 -- selection settle its answer.
 use mathlib.Core.Path.{_≡_, refl, sym, ap, _∙_}
 use mathlib.Core.List.{List, [], _∷_}
-use mathlib.Core.Logic.{_⊎_, inl, inr}
+use mathlib.Core.Logic.{inl, inr}
 use Prim.Native.Nat.{ℕ, _-_, _≤_, _<_}
 use native.Mathlib.Omega.{arith}
 use lib.ListN.{getD}
@@ -12,13 +12,11 @@ use Rattle.rules.specs.declared.Selected.{Selected}
 use Rattle.rules.specs.declared.Selected.the-variants.{Chosen, Refused}
 use Rattle.rules.specs.declared.Refusal.{Refusal}
 use Rattle.rules.specs.declared.Refusal.the-variants.{BadWheel, BadTable, BadList, Disagree, PathLength, NoChannel, ChannelTwice, NoFlow, AlreadyOpen, NotOpen, NoWords, NoTime, TooMuch, TooFar, SlotBeyond}
-use Rattle.rules.specs.Sets.{Within}
 use Rattle.rules.specs.Wheels.{Legal, size, words, largestGap}
 use Rattle.rules.specs.Best.{Meets}
 use Rattle.rules.specs.Numbers.{number, Line, Refuses, Passes}
 use Rattle.rules.specs.Orders.{NoneDelivers, NoneMeets, selectOrder}
 use Rattle.rules.specs.Promises.{Grants, Selects}
-use Rattle.laws.specs.Logic.{le-or-lt}
 use Rattle.laws.specs.Sets.{within-self}
 use Rattle.laws.specs.Gaps.{largest-near, near-largest}
 use Rattle.laws.specs.Whole.{words-within, near-within, some-slot}

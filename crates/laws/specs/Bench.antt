@@ -3,7 +3,7 @@ use mathlib.Core.Path.{_≡_, refl}
 use mathlib.Core.Bool.{Bool, true, _&&_}
 use mathlib.Core.List.{List, [], _∷_, _++_}
 use mathlib.Core.Logic.{inl, inr}
-use Prim.Native.Nat.{ℕ, _+_, _^_, _≤_, _<_}
+use Prim.Native.Nat.{ℕ, _+_, _^_, _≤_}
 use native.Mathlib.Omega.{arith}
 use lib.Dec.{eqb, ltb, leb}
 use lib.ListN.{length, getD}
@@ -17,8 +17,7 @@ use Rattle.rules.specs.Wheels.{Legal, chosen, size, full, start, run, ceil, run
 use Rattle.rules.specs.Best.{smallestStart, distances}
 use Rattle.rules.specs.Paths.{chipOf, cell, shift, travel, allowed, seen, usable, free, freeSlots}
 use Rattle.rules.specs.Numbers.{Refuses, Passes}
-use Rattle.rules.specs.Orders.{selectOrder}
-use Rattle.rules.specs.Promises.{Grants, Selects}
+use Rattle.rules.specs.Promises.{Selects}
 use Rattle.laws.specs.Logic.{and-true}
 use Rattle.laws.specs.Sets.{below-of}
 use Rattle.laws.specs.Answers.{thirteen, not-thirteen, fourteen}

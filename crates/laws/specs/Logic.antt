@@ -16,6 +16,13 @@ tells-yes p = record { yes = λ _. p; no = λ q _. not-both refl q }
 pub tells-no : {P : Type 0} → ¬ P → Tells false P
 tells-no p = record { yes = λ q. absurd (not-both q refl); no = λ _. p }
 
+-- two tests of one fact say the same
+pub tells-unique : {P : Type 0} (a b : Bool) → Tells a P → Tells b P → a ≡ b
+tells-unique true true p q = refl
+tells-unique true false p q = absurd (q .no refl (p .yes refl))
+tells-unique false true p q = absurd (p .no refl (q .yes refl))
+tells-unique false false p q = refl
+
 -- a test that is not true is false
 pub not-true-false : (b : Bool) → ¬ (b ≡ true) → b ≡ false
 not-true-false true h = absurd (h refl)

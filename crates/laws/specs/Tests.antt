@@ -1,20 +1,17 @@
 -- The rules of selection as tests that compute: for a small wheel an answer can be checked against every set of slots.
 -- Each test comes with the law that a yes gives the fact.
-use mathlib.Core.Path.{_≡_, refl, sym, ap, _∙_, subst}
+use mathlib.Core.Path.{_≡_, refl, subst}
 use mathlib.Core.Bool.{Bool, true, false, not, _&&_, _||_}
 use mathlib.Core.List.{List, [], _∷_}
 use mathlib.Core.Logic.{_⊎_, inl, inr}
-use Prim.Native.Nat.{ℕ, _^_, _≤_, _<_}
-use native.Mathlib.Omega.{arith}
+use Prim.Native.Nat.{ℕ, _^_, _<_}
 use lib.Dec.{eqb, ltb, leb}
 use borrow.Author.Tests.{eqb-true, ltb-true, leb-true, le-leb}
 use Rattle.rules.specs.declared.Wheel.{Wheel}
-use Rattle.rules.specs.declared.Grant.{Grant}
 use Rattle.rules.specs.Sets.{has, all, Within, Below}
 use Rattle.rules.specs.Wheels.{Legal, size, words, largestGap}
 use Rattle.rules.specs.Best.{Meets, smallestStart, distances, Before, here, later, Better, fewer, more, sooner, closer, Best}
-use Rattle.rules.specs.Promises.{Grants}
-use Rattle.laws.specs.Logic.{not-both, and-true, le-or-lt}
+use Rattle.laws.specs.Logic.{not-both, and-true}
 use Rattle.laws.specs.Search.{all-each, all-yes}
 use Rattle.laws.specs.Sets.{below-of, below-small, below-shift, within-below}
 use Rattle.laws.specs.Gaps.{near-largest}

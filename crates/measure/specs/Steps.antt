@@ -1,14 +1,14 @@
 -- What the steps of the measures compute, one slot at a time.
-use mathlib.Core.Path.{_≡_, refl, sym, ap, _∙_}
+use mathlib.Core.Path.{_≡_, sym, ap, _∙_}
 use mathlib.Core.Bool.{Bool, true, false, not, cond}
 use mathlib.Core.Logic.{_⊎_, inl, inr}
-use Prim.Native.Nat.{ℕ, suc, _+_, _-_, _%_, _≤_, _<_}
+use Prim.Native.Nat.{ℕ, suc, _+_, _%_, _≤_, _<_}
 use native.Mathlib.Omega.{arith}
-use native.Mathlib.Nat.{mod-eq-of-lt, mod-self, zero-add}
+use native.Mathlib.Nat.{mod-eq-of-lt, mod-self}
 use native.Mathlib.Numerals.{add-one}
 use Rattle.rules.specs.declared.Wheel.{Wheel}
 use Rattle.rules.specs.Sets.{stretch}
-use Rattle.rules.specs.Wheels.{Legal, chosen, start, run, runWords, wordsAt, gap, gapAt}
+use Rattle.rules.specs.Wheels.{Legal, chosen, start, run, runWords, wordsAt}
 use Rattle.laws.specs.Logic.{le-or-lt}
 use Rattle.laws.specs.Counting.{stretch-le, stretch-turn}
 use Rattle.laws.specs.Turns.{chosen-turn}

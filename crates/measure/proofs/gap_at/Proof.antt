@@ -1,12 +1,12 @@
 -- The gap is one more than the stretch of slots that are not chosen and begins after slot i.
-use mathlib.Core.Path.{_≡_, refl, sym, ap, _∙_}
+use mathlib.Core.Path.{ap, _∙_}
 use mathlib.Core.Bool.{false}
-use Prim.Native.Nat.{_+_, _-_, suc}
+use Prim.Native.Nat.{_-_, suc}
 use native.Mathlib.Omega.{arith}
 use native.Mathlib.Numerals.{one-add}
 use borrow.Author.Needs.{needs}
 use Rattle.rules.specs.Sets.{stretch}
-use Rattle.rules.specs.Wheels.{chosen, gap, gapAt}
+use Rattle.rules.specs.Wheels.{gap, gapAt}
 use Rattle.laws.specs.Counting.{stretch-le}
 use Rattle.laws.specs.Turns.{chosen-below}
 use Rattle.measure.specs.Steps.{as-wanted, stretch-after}

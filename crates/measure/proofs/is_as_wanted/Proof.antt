@@ -1,8 +1,7 @@
 -- By cases on what is wanted.
-use mathlib.Core.Path.{sym, ap, _∙_}
-use mathlib.Core.Bool.{not, cond}
+use mathlib.Core.Path.{ap}
+use mathlib.Core.Bool.{not}
 use borrow.Author.Needs.{needs}
-use Rattle.rules.specs.Sets.{has}
 use Rattle.measure.proofs.is_as_wanted.Statement.{statement}
 use Rattle.measure.proofs.is_as_wanted.Tie as tie
 

@@ -1,12 +1,12 @@
 -- The full wheel is one run of N slots, and any other set the sum over its runs; both are small enough for the result.
-use mathlib.Core.Path.{_≡_, refl, sym, ap, _∙_}
-use mathlib.Core.Bool.{Bool, true, false}
+use mathlib.Core.Path.{_≡_, sym, _∙_}
+use mathlib.Core.Bool.{true}
 use Prim.Native.Nat.{ℕ}
 use native.Mathlib.Omega.{arith}
 use borrow.Author.Tests.{not-true, not-false}
 use Rattle.rules.specs.declared.Wheel.{Wheel}
 use Rattle.rules.specs.Sets.{sum, stretch}
-use Rattle.rules.specs.Wheels.{Legal, chosen, full, runWords, wordsAt, words}
+use Rattle.rules.specs.Wheels.{chosen, full, runWords, wordsAt, words}
 use Rattle.laws.specs.Logic.{not-true-false}
 use Rattle.laws.specs.Counting.{stretch-all, all-stretch}
 use Rattle.laws.specs.Bounds.{words-small}
