@@ -179,14 +179,16 @@ fn all_wheels(s: u16, h: u16, p: usize, against: Against) {
 }
 
 // A wheel at the edge of its ranges, with three sets.
-fn inside(t: Tally, w: Wheel) -> Tally {
+fn inside(t: Tally, n: usize, s: u16, h: u16, p: usize) -> Tally {
+    let w = wheel(n, s, h, p);
     let full = 18446744073709551615;
     let good = measure::legal(w) && right(w, 0) && right(w, 255) && right(w, full);
     noted(t, good)
 }
 
 // A wheel outside its ranges, with three sets: the library says no, and every measure is 0.
-fn outside(t: Tally, w: Wheel) -> Tally {
+fn outside(t: Tally, n: usize, s: u16, h: u16, p: usize) -> Tally {
+    let w = wheel(n, s, h, p);
     let full = 18446744073709551615;
     let bad = !measure::legal(w) && all_zero(w, 0) && all_zero(w, 255) && all_zero(w, full);
     noted(t, bad)
@@ -194,80 +196,75 @@ fn outside(t: Tally, w: Wheel) -> Tally {
 
 // Wheels with one value at an end of its range.
 fn edges() {
-    let a = inside(none(), wheel(1, 3, 1, 3));
-    let b = inside(a, wheel(64, 3, 1, 3));
-    let c = inside(b, wheel(8, 2, 1, 3));
-    let d = inside(c, wheel(8, 64, 1, 3));
-    let e = inside(d, wheel(8, 3, 0, 3));
-    let f = inside(e, wheel(8, 3, 2, 3));
-    let g = inside(f, wheel(8, 3, 1, 1));
-    let h = inside(g, wheel(8, 3, 1, 64));
-    let i = inside(h, wheel(64, 64, 63, 1));
-    let j = inside(i, wheel(64, 64, 0, 64));
+    let a = inside(none(), 1, 3, 1, 3);
+    let b = inside(a, 64, 3, 1, 3);
+    let c = inside(b, 8, 2, 1, 3);
+    let d = inside(c, 8, 64, 1, 3);
+    let e = inside(d, 8, 3, 0, 3);
+    let f = inside(e, 8, 3, 2, 3);
+    let g = inside(f, 8, 3, 1, 1);
+    let h = inside(g, 8, 3, 1, 64);
+    let i = inside(h, 64, 64, 63, 1);
+    let j = inside(i, 64, 64, 0, 64);
     text(b"at the edges of the ranges: ");
     result(j, b" wheels, ");
 }
 
 // Wheels with a bad number of slots.
 fn bad_slots(t: Tally) -> Tally {
-    let a = outside(t, wheel(0, 3, 1, 3));
-    let b = outside(a, wheel(65, 3, 1, 3));
-    let c = outside(b, wheel(65535, 3, 1, 3));
-    outside(c, wheel(18446744073709551615, 3, 1, 3))
+    let a = outside(t, 0, 3, 1, 3);
+    let b = outside(a, 65, 3, 1, 3);
+    let c = outside(b, 65535, 3, 1, 3);
+    outside(c, 18446744073709551615, 3, 1, 3)
 }
 
 // Wheels with a bad number of words in a slot.
 fn bad_words(t: Tally) -> Tally {
-    let a = outside(t, wheel(8, 0, 0, 3));
-    let b = outside(a, wheel(8, 1, 0, 3));
-    let c = outside(b, wheel(8, 65, 1, 3));
-    outside(c, wheel(8, 65535, 1, 3))
+    let a = outside(t, 8, 0, 0, 3);
+    let b = outside(a, 8, 1, 0, 3);
+    let c = outside(b, 8, 65, 1, 3);
+    outside(c, 8, 65535, 1, 3)
 }
 
 // Wheels whose header is as long as a slot, or longer.
 fn bad_header(t: Tally) -> Tally {
-    let a = outside(t, wheel(8, 3, 3, 3));
-    let b = outside(a, wheel(8, 3, 4, 3));
-    let c = outside(b, wheel(8, 64, 64, 3));
-    outside(c, wheel(8, 3, 65535, 3))
+    let a = outside(t, 8, 3, 3, 3);
+    let b = outside(a, 8, 3, 4, 3);
+    let c = outside(b, 8, 64, 64, 3);
+    outside(c, 8, 3, 65535, 3)
 }
 
 // Wheels with a bad header period.
 fn bad_period(t: Tally) -> Tally {
-    let a = outside(t, wheel(8, 3, 1, 0));
-    let b = outside(a, wheel(8, 3, 1, 65));
-    let c = outside(b, wheel(8, 3, 1, 65535));
-    outside(c, wheel(8, 3, 1, 18446744073709551615))
+    let a = outside(t, 8, 3, 1, 0);
+    let b = outside(a, 8, 3, 1, 65);
+    let c = outside(b, 8, 3, 1, 65535);
+    outside(c, 8, 3, 1, 18446744073709551615)
 }
 
 // Wheels with one value outside its range, and one with all four.
 fn bad_wheels() {
     let t = bad_period(bad_header(bad_words(bad_slots(none()))));
     text(b"outside the ranges: ");
-    result(outside(t, wheel(0, 1, 1, 0)), b" wheels, ");
+    result(outside(t, 0, 1, 1, 0), b" wheels, ");
 }
 
-// The value v in each place of the wheel in turn, with every second slot and with all slots.
-fn one_value(t: Tally, v: u16) -> Tally {
-    let half = 6148914691236517205;
-    let full = 18446744073709551615;
-    let k = count(v);
-    let a = noted(
-        t,
-        right(wheel(k, 3, 1, 3), half) && right(wheel(k, 3, 1, 3), full),
-    );
-    let b = noted(
-        a,
-        right(wheel(8, v, 1, 3), half) && right(wheel(8, v, 1, 3), full),
-    );
-    let c = noted(
-        b,
-        right(wheel(8, 7, v, 3), half) && right(wheel(8, 7, v, 3), full),
-    );
+// Every second slot, and all slots, on one wheel.
+fn two_sets(t: Tally, n: usize, s: u16, h: u16, p: usize) -> Tally {
+    let w = wheel(n, s, h, p);
     noted(
-        c,
-        right(wheel(64, 3, 1, k), half) && right(wheel(64, 3, 1, k), full),
+        t,
+        right(w, 6148914691236517205) && right(w, 18446744073709551615),
     )
+}
+
+// The value v in each place of the wheel in turn.
+fn one_value(t: Tally, v: u16) -> Tally {
+    let k = count(v);
+    let a = two_sets(t, k, 3, 1, 3);
+    let b = two_sets(a, 8, v, 1, 3);
+    let c = two_sets(b, 8, 7, v, 3);
+    two_sets(c, 64, 3, 1, k)
 }
 
 // Each value from 0 to 70 in each place of the wheel.
