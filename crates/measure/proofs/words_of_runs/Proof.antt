@@ -19,8 +19,18 @@ loop-holds : tie.Need-loop-holds Inv-loop μ-loop
 unfolding sum
 loop-holds c = (omega arith, omega arith, refl)
 
+loop-again : tie.Need-loop-again Inv-loop μ-loop
+loop-again c =
+    let st = c .before .before .before in
+    let at = c .before .before .loop in
+    let next = c .words-at .ensures in (
+      omega arith,
+      omega (arith, next, wordsAt-most (st .args .w) (st .pre) (st .args .x) (at .i)),
+      omega (arith, next, at .inv .2, sum-more (wordsAt (st .args .w) (st .args .x)) (at .i)),
+    )
+
 words-at-requires : tie.Need-words-at-requires Inv-loop μ-loop
-words-at-requires c κs = (c .before .before .pre, c .loop-test .taken)
+words-at-requires c κs = (c .before .before .pre, omega arith)
 
 add-total : tie.Need-add-total Inv-loop μ-loop
 add-total c =
@@ -32,16 +42,6 @@ add-i c = omega arith
 
 loop-less : tie.Need-loop-less Inv-loop μ-loop
 loop-less c = omega arith
-
-loop-again : tie.Need-loop-again Inv-loop μ-loop
-loop-again c =
-    let st = c .before .before .before in
-    let at = c .before .before .loop in
-    let next = c .words-at .ensures in (
-      omega arith,
-      omega (arith, next, wordsAt-most (st .args .w) (st .pre) (st .args .x) (at .i)),
-      omega (arith, next, at .inv .2, sum-more (wordsAt (st .args .w) (st .args .x)) (at .i)),
-    )
 
 returns : tie.Need-returns Inv-loop μ-loop
 returns c =
