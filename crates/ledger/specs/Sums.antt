@@ -1,10 +1,10 @@
--- Sums over the places below m: place by place, in another order, and how often a place is hit.
+-- Sums over the places below m: place by place, part by part, in another order, and how often a place is hit.
 use mathlib.Core.Path.{_≡_, refl, sym, ap, _∙_}
 use mathlib.Core.Bool.{Bool, true, false, _||_, cond}
 use mathlib.Core.Logic.{_⊎_, inl, inr}
-use Prim.Native.Nat.{ℕ, zero, suc, _+_, _*_, _≤_, _<_}
+use Prim.Native.Nat.{ℕ, zero, suc, _+_, _-_, _*_, _≤_, _<_}
 use native.Mathlib.Omega.{arith}
-use native.Mathlib.Nat.{eq-or-lt-of-le, mul-suc, mul-zero}
+use native.Mathlib.Nat.{add-suc, add-zero, eq-or-lt-of-le, mul-suc, mul-zero}
 use native.Mathlib.Numerals.{add-one}
 use lib.Dec.{eqb}
 use borrow.Author.Tests.{eqb-true, eqb-false, ne-eqb}
@@ -54,6 +54,29 @@ sum-const a (suc m) = omega (arith, one-more (λ i. a) m, sum-const a m, mul-suc
 
 pub sum-zero : (f : ℕ → ℕ) (m : ℕ) → ((i : ℕ) → i < m → f i ≡ 0) → sum f 0 m ≡ 0
 sum-zero f m h = sum-each f (λ i. 0) m h ∙ omega (arith, sum-const 0 m)
+
+-- ---- part by part
+
+pub sum-join : (f : ℕ → ℕ) (a b : ℕ) → sum f 0 (a + b) ≡ sum f 0 a + sum (λ i. f (a + i)) 0 b
+sum-join f a zero = rw (add-zero a) (omega (arith, none (λ i. f (a + i))))
+sum-join f a (suc b) =
+    rw (add-suc a b) (omega (arith, one-more f (a + b), one-more (λ i. f (a + i)) b, sum-join f a b))
+
+-- what is 0 from a on need not be added
+pub sum-cut : (f : ℕ → ℕ) (a m : ℕ) → a ≤ m → ((i : ℕ) → a ≤ i → f i ≡ 0) → sum f 0 m ≡ sum f 0 a
+sum-cut f a m h zeros =
+    let e : m ≡ a + (m - a) = omega arith in
+    rw e (omega (arith, sum-join f a (m - a), sum-zero (λ i. f (a + i)) (m - a) (λ i l. zeros (a + i) (omega arith))))
+
+-- rows of 64
+pub sum-rows : (f : ℕ → ℕ) (m : ℕ) → sum f 0 (64 * m) ≡ sum (λ c. sum (λ j. f (64 * c + j)) 0 64) 0 m
+sum-rows f zero = none f ∙ sym (none _)
+sum-rows f (suc m) =
+    let e : 64 * suc m ≡ 64 * m + 64 = omega arith in
+    ap (sum f 0) e
+    ∙ sum-join f (64 * m) 64
+    ∙ ap (λ a. a + sum (λ j. f (64 * m + j)) 0 64) (sum-rows f m)
+    ∙ sym (one-more (λ c. sum (λ j. f (64 * c + j)) 0 64) m)
 
 -- ---- in another order
 

@@ -5,11 +5,10 @@
 use mathlib.Core.Path.{_≡_, refl, sym, ap, _∙_}
 use mathlib.Core.Bool.{Bool, true, false, _&&_, cond}
 use mathlib.Core.List.{List}
-use mathlib.Core.Logic.{_⊎_, inl, inr}
 use Prim.Native.Nat.{ℕ, _+_, _*_, _≤_, _<_}
 use native.Mathlib.Omega.{arith}
 use native.Mathlib.Nat.{mul-comm, one-mul}
-use lib.ListN.{getD}
+use lib.ListN.{getD, length}
 use lib.Dec.{eqb}
 use borrow.Author.Tests.{eq-eqb, ne-eqb, eqb-true}
 use Rattle.rules.specs.declared.State.{State}
@@ -19,42 +18,21 @@ use Rattle.rules.specs.Sets.{has, any, sum}
 use Rattle.rules.specs.Wheels.{Legal, size}
 use Rattle.rules.specs.Paths.{Chip, cell, seen, reached, claims, Inside, Once}
 use Rattle.rules.specs.Flows.{flow, claiming, Own, takes, Agree, freeCells, cellsOf, heldCells}
-use Rattle.laws.specs.Logic.{not-both, not-true-false, and-true, le-or-lt}
+use Rattle.rules.specs.Orders.{Tabled}
+use Rattle.laws.specs.Logic.{not-both, not-true-false, and-true}
 use Rattle.laws.specs.Search.{any-find, any-yes}
 use Rattle.laws.specs.Turns.{chosen-below}
 use Rattle.ledger.specs.Claims.{seen-below, seen-once, takes-inside}
 use Rattle.ledger.specs.Agreement.{held-once}
-use Rattle.ledger.specs.Sums.{bit, sum-each, sum-le, sum-tight, sum-const, sum-zero, sum-add, sum-swap, sum-hit, Lone, any-sum}
+use Rattle.ledger.specs.Sums.{bit, sum-each, sum-le, sum-tight, sum-const, sum-zero, sum-cut, sum-rows, sum-add, sum-swap, sum-hit, Lone, any-sum}
 
 -- 1 for a cell that is not 0
 abbrev pub used : ℕ → ℕ
 used v = cond (eqb v 0) 0 1
 
--- the cells that are not 0 among the first N of every row
-unfoldable pub usedCells : Chip → List ℕ → ℕ
-usedCells chip t = sum (λ c. sum (λ j. used (cell t c j)) 0 (chip .wheel .n)) 0 (chip .channels)
-
-pub free-and-used : (chip : Chip) (t : List ℕ) → freeCells chip t + usedCells chip t ≡ chip .channels * chip .wheel .n
-unfolding freeCells usedCells
-free-and-used chip t =
-    sym (sum-add (λ c. sum (λ j. cond (eqb (cell t c j) 0) 1 0) 0 N) (λ c. sum (λ j. used (cell t c j)) 0 N) (chip .channels))
-    ∙ sum-each _ (λ c. N) (chip .channels) (λ c h. row c)
-    ∙ sum-const N (chip .channels)
-    ∙ mul-comm N (chip .channels)
-  where
-    N : ℕ
-    N = chip .wheel .n
-
-    one : (b : Bool) → cond b 1 0 + cond b 0 1 ≡ 1
-    one true = refl
-    one false = refl
-
-    row : (c : ℕ) → sum (λ j. cond (eqb (cell t c j) 0) 1 0) 0 N + sum (λ j. used (cell t c j)) 0 N ≡ N
-    row c =
-        sym (sum-add (λ j. cond (eqb (cell t c j) 0) 1 0) (λ j. used (cell t c j)) N)
-        ∙ sum-each _ (λ j. 1) N (λ j h. one (eqb (cell t c j) 0))
-        ∙ sum-const 1 N
-        ∙ one-mul N
+-- how many cells of the table are not 0
+unfoldable pub usedCells : List ℕ → ℕ
+usedCells t = sum (λ i. used (getD t i 0)) 0 (length t)
 
 -- ---- the cells of one record
 
@@ -123,25 +101,36 @@ module _ (chip : Chip) (legal : Legal (chip .wheel)) where
 
 -- ---- the cells of all records
 
--- what one pass over the list and one over the table can count
+-- what one pass over the list and one over the table find
 pub record Counted (chip : Chip) (t : List ℕ) (n : ℕ) (list : List Record) : Type 0 where
   pub own : (f : ℕ) → f < n → Own chip (flow list f .state) (flow list f)
   pub held : (f c j : ℕ) → f < n → takes chip (flow list f) c j ≡ true → cell t c j ≡ f + 1
-  pub over : (c j : ℕ) → c < chip .channels → chip .wheel .n ≤ j → j < 64 → cell t c j ≡ 0
-  pub total : usedCells chip t ≡ heldCells chip n list
+  pub total : usedCells t ≡ heldCells chip n list
 
 module _ (chip : Chip) (t : List ℕ) (n : ℕ) (list : List Record) (legal : Legal (chip .wheel)) where
   -- how many flows claim a cell
   abbrev owners : ℕ → ℕ → ℕ
   owners c j = sum (λ f. bit (takes chip (flow list f) c j)) 0 n
 
-  owners-held : ((f : ℕ) → f < n → Own chip (flow list f .state) (flow list f))
-      → sum (λ c. sum (λ j. sum (λ f. bit (takes chip (flow list f) c j)) 0 n) 0 (chip .wheel .n)) 0 (chip .channels) ≡ heldCells chip n list
-  unfolding heldCells
-  owners-held own =
-      sum-each _ _ (chip .channels) (λ c h. sum-swap (λ j f. bit (takes chip (flow list f) c j)) (chip .wheel .n) n)
-      ∙ sum-swap (λ c f. sum (λ j. bit (takes chip (flow list f) c j)) 0 (chip .wheel .n)) (chip .channels) n
-      ∙ sum-each _ _ n (λ f h. cells-claimed chip legal (flow list f) (own f h))
+  module _ (own : (f : ℕ) → f < n → Own chip (flow list f .state) (flow list f)) where
+    owners-held : sum (λ c. sum (owners c) 0 (chip .wheel .n)) 0 (chip .channels) ≡ heldCells chip n list
+    unfolding heldCells
+    owners-held =
+        sum-each _ _ (chip .channels) (λ c h. sum-swap (λ j f. bit (takes chip (flow list f) c j)) (chip .wheel .n) n)
+        ∙ sum-swap (λ c f. sum (λ j. bit (takes chip (flow list f) c j)) 0 (chip .wheel .n)) (chip .channels) n
+        ∙ sum-each _ _ n (λ f h. cells-claimed chip legal (flow list f) (own f h))
+
+    -- no flow claims a cell from N on, so that whole rows may be counted
+    rows-held : sum (λ c. sum (owners c) 0 64) 0 (chip .channels) ≡ heldCells chip n list
+    rows-held =
+        sum-each _ _ (chip .channels)
+        (λ c h. sum-cut (owners c) (chip .wheel .n) 64 (legal .n64) (λ j l. sum-zero _ n (λ f k. ap bit (not-true-false _ (beyond c j f k l)))))
+        ∙ owners-held
+      where
+        beyond : (c j f : ℕ) → f < n → chip .wheel .n ≤ j → ¬ (takes chip (flow list f) c j ≡ true)
+        beyond c j f k l e =
+            let (hc, hj) = takes-inside chip (flow list f) c j (legal .n1) (own f k) e in
+            omega arith
 
   module _ (held : (f c j : ℕ) → f < n → takes chip (flow list f) c j ≡ true → cell t c j ≡ f + 1) (c j : ℕ) where
     owners-bit : (b : Bool) → any (λ f. takes chip (flow list f) c j) n ≡ b → owners c j ≡ bit b
@@ -175,50 +164,66 @@ module _ (chip : Chip) (t : List ℕ) (n : ℕ) (list : List Record) (legal : Le
             owners-bit false e
             ∙ sym (ap (λ b. cond b 0 1) (eq-eqb _ _ (others λ f h. not-true-false _ (λ o. not-both (any-yes _ n f h o) e))))
 
-  pub agree-counted : Agree chip t n list → Counted chip t n list
-  unfolding usedCells
-  agree-counted agree =
-      record {
-        own = agree .own;
-        held = agree .held;
-        over = λ c j hc l hj. agree .others c j hc hj (λ f h. not-true-false _ (λ e. beyond c j f h l e));
-        total = sum-each _ _ (chip .channels)
-            (λ c h. sum-each _ _ (chip .wheel .n) (λ j k. sym (owners-are-used (agree .held) c j (agree .others c j h (omega (arith, legal .n64))))))
-            ∙ owners-held (agree .own);
-      }
-    where
-      beyond : (c j f : ℕ) → f < n → chip .wheel .n ≤ j → takes chip (flow list f) c j ≡ true → ⊥
-      beyond c j f h l e =
-          let (hc, hj) = takes-inside chip (flow list f) c j (legal .n1) (agree .own f h) e in
-          omega arith
-
-  pub counted-agree : Counted chip t n list → Agree chip t n list
-  unfolding usedCells
-  counted-agree counted =
-      record { own = counted .own; once = held-once chip t n list (counted .held); held = counted .held; others = others }
-    where
-      row-owners : (c : ℕ) → sum (λ j. owners c j) 0 (chip .wheel .n) ≤ sum (λ j. used (cell t c j)) 0 (chip .wheel .n)
-      row-owners c = sum-le _ _ (chip .wheel .n) (λ j h. owners-used (counted .held) c j)
-
-      exact : (c j : ℕ) → c < chip .channels → j < chip .wheel .n → owners c j ≡ used (cell t c j)
-      exact c j h k =
-          sum-tight _ _ (chip .wheel .n) (λ j l. owners-used (counted .held) c j)
-          (sum-tight _ _ (chip .channels) (λ c l. row-owners c) (owners-held (counted .own) ∙ sym (counted .total)) c h) j k
-
-      zero-cell : (v : ℕ) → used v ≡ 0 → v ≡ 0
-      zero-cell v e = go (eqb v 0) refl e
-        where
-          go : (b : Bool) → eqb v 0 ≡ b → _≡_ {A = ℕ} (cond b 0 1) 0 → v ≡ 0
-          go true q e = eqb-true v 0 q
-          go false q e = absurd (omega arith)
-
-      others : (c j : ℕ) → c < chip .channels → j < 64 → ((f : ℕ) → f < n → takes chip (flow list f) c j ≡ false) → cell t c j ≡ 0
-      others c j h k unclaimed = go (le-or-lt (chip .wheel .n) j)
-        where
-          go : (chip .wheel .n ≤ j) ⊎ (j < chip .wheel .n) → cell t c j ≡ 0
-          go (inl l) = counted .over c j h l k
-          go (inr l) = zero-cell (cell t c j) (sym (exact c j h l) ∙ sum-zero _ n (λ f q. ap bit (unclaimed f q)))
+  agree-owners : Agree chip t n list → (c j : ℕ) → c < chip .channels → j < 64 → owners c j ≡ used (cell t c j)
+  agree-owners agree c j h k = owners-are-used (agree .held) c j (agree .others c j h k)
 
   -- the report: free and held cells make up all cells
   pub free-and-held : Agree chip t n list → freeCells chip t + heldCells chip n list ≡ chip .channels * chip .wheel .n
-  free-and-held agree = ap (λ h. freeCells chip t + h) (sym (agree-counted agree .total)) ∙ free-and-used chip t
+  unfolding freeCells
+  free-and-held agree =
+      ap (λ h. sum (λ c. sum (λ j. bit (eqb (cell t c j) 0)) 0 (chip .wheel .n)) 0 (chip .channels) + h) (sym (owners-held (agree .own)))
+      ∙ sym (sum-add (λ c. sum (λ j. bit (eqb (cell t c j) 0)) 0 (chip .wheel .n)) (λ c. sum (owners c) 0 (chip .wheel .n)) (chip .channels))
+      ∙ sum-each _ (λ c. chip .wheel .n) (chip .channels) row
+      ∙ sum-const (chip .wheel .n) (chip .channels)
+      ∙ mul-comm (chip .wheel .n) (chip .channels)
+    where
+      one : (b : Bool) → bit b + cond b 0 1 ≡ 1
+      one true = refl
+      one false = refl
+
+      row : (c : ℕ) → c < chip .channels
+          → sum (λ j. bit (eqb (cell t c j) 0)) 0 (chip .wheel .n) + sum (owners c) 0 (chip .wheel .n) ≡ chip .wheel .n
+      row c h =
+          sym (sum-add (λ j. bit (eqb (cell t c j) 0)) (owners c) (chip .wheel .n))
+          ∙ sum-each _ (λ j. 1) (chip .wheel .n)
+          (λ j k. ap (λ o. bit (eqb (cell t c j) 0) + o) (agree-owners agree c j h (omega (arith, legal .n64))) ∙ one (eqb (cell t c j) 0))
+          ∙ sum-const 1 (chip .wheel .n)
+          ∙ one-mul (chip .wheel .n)
+
+  module _ (tabled : Tabled chip t) where
+    rows-used : usedCells t ≡ sum (λ c. sum (λ j. used (cell t c j)) 0 64) 0 (chip .channels)
+    unfolding usedCells cell
+    rows-used = ap (sum (λ i. used (getD t i 0)) 0) (tabled .long) ∙ sum-rows (λ i. used (getD t i 0)) (chip .channels)
+
+    pub agree-counted : Agree chip t n list → Counted chip t n list
+    agree-counted agree =
+        record {
+          own = agree .own;
+          held = agree .held;
+          total = rows-used
+              ∙ sum-each _ _ (chip .channels) (λ c h. sum-each _ _ 64 (λ j k. sym (agree-owners agree c j h k)))
+              ∙ rows-held (agree .own);
+        }
+
+    pub counted-agree : Counted chip t n list → Agree chip t n list
+    counted-agree counted =
+        record { own = counted .own; once = held-once chip t n list (counted .held); held = counted .held; others = others }
+      where
+        row-owners : (c : ℕ) → sum (owners c) 0 64 ≤ sum (λ j. used (cell t c j)) 0 64
+        row-owners c = sum-le _ _ 64 (λ j h. owners-used (counted .held) c j)
+
+        exact : (c j : ℕ) → c < chip .channels → j < 64 → owners c j ≡ used (cell t c j)
+        exact c j h k =
+            sum-tight _ _ 64 (λ j l. owners-used (counted .held) c j)
+            (sum-tight _ _ (chip .channels) (λ c l. row-owners c) (rows-held (counted .own) ∙ sym (counted .total) ∙ rows-used) c h) j k
+
+        unused-zero : (v : ℕ) → used v ≡ 0 → v ≡ 0
+        unused-zero v e = go (eqb v 0) refl e
+          where
+            go : (b : Bool) → eqb v 0 ≡ b → _≡_ {A = ℕ} (cond b 0 1) 0 → v ≡ 0
+            go true q e = eqb-true v 0 q
+            go false q e = absurd (omega arith)
+
+        others : (c j : ℕ) → c < chip .channels → j < 64 → ((f : ℕ) → f < n → takes chip (flow list f) c j ≡ false) → cell t c j ≡ 0
+        others c j h k unclaimed =
+            unused-zero (cell t c j) (sym (exact c j h k) ∙ sum-zero _ n (λ f q. ap bit (unclaimed f q)))
