@@ -7,7 +7,7 @@ use Prim.Native.Nat.{ℕ, _-_}
 use lib.ListN.{getD}
 use Rattle.rules.specs.declared.Refusal.{Refusal}
 use Rattle.rules.specs.declared.Refusal.the-variants.{BadWheel, BadTable, BadList, Disagree, PathLength, NoChannel, ChannelTwice, NoFlow, AlreadyOpen, NotOpen, NoWords, NoTime, TooMuch, TooFar, SlotBeyond}
-use Rattle.rules.specs.Numbers.{number, Line, Refuses, Passes}
+use Rattle.rules.specs.Numbers.{number, Line, line, Refuses, Passes}
 
 -- ---- orders
 
@@ -68,6 +68,16 @@ Alike [] [] = Unit {0}
 Alike [] (m ∷ ms) = ⊥
 Alike (l ∷ ls) [] = ⊥
 Alike (l ∷ ls) (m ∷ ms) = (l .no ≡ m .no) × (l .given → m .given) × (m .given → l .given) × (¬ (l .given) → Alike ls ms)
+
+-- a line that both orders have
+pub alike-line : (l : Line) (ls ms : List Line) → (¬ (l .given) → Alike ls ms) → Alike (l ∷ ls) (l ∷ ms)
+unfolding Alike
+alike-line l ls ms a = (refl, λ g. g, λ g. g, a)
+
+-- a line that is given alike
+pub alike-given : (k : ℕ) (P Q : Type 0) (ls ms : List Line) → (P → Q) → (Q → P) → (¬ P → Alike ls ms) → Alike (line k P ∷ ls) (line k Q ∷ ms)
+unfolding Alike
+alike-given k P Q ls ms f g a = (refl, f, g, a)
 
 pub alike-self : (order : List Line) → Alike order order
 unfolding Alike
