@@ -4,3 +4,4 @@ pub mod Stamps
 pub mod Agreement
 pub mod Sums
 pub mod Totals
+pub mod Calls
