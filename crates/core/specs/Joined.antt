@@ -1,15 +1,14 @@
 -- From one record to the whole list: where `agreed` tells whether table and list agree, and the record is the flow's, what
 -- the pieces promise is what document 01 asks of the call.
-use mathlib.Core.Path.{_≡_, refl, sym, ap, _∙_, subst}
-use mathlib.Core.Bool.{Bool, true, false, cond}
-use mathlib.Core.List.{List, [], _∷_}
+use mathlib.Core.Path.{_≡_, sym, ap, _∙_}
+use mathlib.Core.Bool.{Bool, true, cond}
+use mathlib.Core.List.{List, []}
 use mathlib.Core.Logic.{_⊎_, inl, inr}
-use Prim.Native.Nat.{ℕ, zero, suc, _+_, _-_, _*_, _≤_, _<_}
+use Prim.Native.Nat.{ℕ, _-_, _≤_, _<_}
 use native.Mathlib.Omega.{arith}
 use lib.ListN.{set}
 use Rattle.rules.specs.Tells.{Tells}
 use Rattle.rules.specs.declared.Demand.{Demand}
-use Rattle.rules.specs.declared.State.{State}
 use Rattle.rules.specs.declared.Record.{Record}
 use Rattle.rules.specs.declared.Opened.{Opened}
 use Rattle.rules.specs.declared.Opened.the-variants as opened
@@ -18,17 +17,17 @@ use Rattle.rules.specs.declared.Cleared.the-variants as cleared
 use Rattle.rules.specs.declared.Reported.{Reported}
 use Rattle.rules.specs.declared.Reported.the-variants as reported
 use Rattle.rules.specs.Paths.{Chip}
-use Rattle.rules.specs.Flows.{flow, claiming, Agree, heldCells, freeCells}
-use Rattle.rules.specs.Numbers.{number, Line, Refuses, Passes}
-use Rattle.rules.specs.Orders.{checked, openOrder, closeOrder, reportOrder}
+use Rattle.rules.specs.Flows.{flow, claiming, heldCells}
+use Rattle.rules.specs.Numbers.{number, Line, Passes}
+use Rattle.rules.specs.Orders.{checked, openOrder, closeOrder}
 use Rattle.rules.specs.Promises.{Opens, Closes, Reports}
 use Rattle.laws.specs.Logic.{not-true-false, not-false-true, le-or-lt}
 use Rattle.laws.specs.Refusals.{Alike, alike-line, alike-given, alike-self, refuses-alike, passes-alike}
 use Rattle.ledger.specs.Totals.{free-and-held}
-use Rattle.agree.specs.Checks.{Ready, Agrees}
+use Rattle.agree.specs.Checks.{Agrees}
 use Rattle.core.specs.declared.Opening.{Opening}
 use Rattle.core.specs.declared.Closing.{Closing}
-use Rattle.core.specs.Pieces.{checkedLines, openLines, closeLines, reportLines, DecidesOpen, WritesOpen, OpensOne, DecidesClose, WritesClose, ClosesOne, ReportsOne}
+use Rattle.core.specs.Pieces.{checkedLines, openLines, closeLines, DecidesOpen, WritesOpen, OpensOne, DecidesClose, WritesClose, ClosesOne, ReportsOne}
 
 module _ (chip : Chip) (t : List ℕ) (n : ℕ) (list : List Record) (agreed : Bool) (tells : Tells agreed (Agrees chip t n list)) where
   -- ---- the orders

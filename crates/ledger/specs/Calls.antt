@@ -1,13 +1,14 @@
 -- What the promises of the calls come to: each settles its answer, the table and the list afterwards; a granted opening and
 -- a closing keep agreement; and closing at once after opening gives table and list back.
-use mathlib.Core.Path.{_≡_, refl, sym, ap, ap₂, _∙_, subst}
-use mathlib.Core.Bool.{Bool, true, false, cond}
-use mathlib.Core.List.{List, [], _∷_}
+use mathlib.Core.Path.{_≡_, refl, sym, ap, _∙_, subst}
+use mathlib.Core.Bool.{true, false, cond}
+use mathlib.Core.List.{List, []}
 use mathlib.Core.Logic.{_⊎_, inl, inr}
 use Prim.Native.Nat.{ℕ, zero, suc, _+_, _-_, _*_, _≤_, _<_}
 use native.Mathlib.Omega.{arith}
 use native.Mathlib.Decide.{ℕ-discrete, decLt}
-use lib.ListN.{getD, set, length}
+use lib.ListN.{getD, set, length, length-set}
+use lib.Seq.{ext-getD, getD-set-same, getD-set-other}
 use Rattle.rules.specs.declared.Demand.{Demand}
 use Rattle.rules.specs.declared.State.{State}
 use Rattle.rules.specs.declared.State.the-variants.{Closed, Open}
@@ -17,17 +18,16 @@ use Rattle.rules.specs.declared.Opened.{Opened}
 use Rattle.rules.specs.declared.Opened.the-variants as opened
 use Rattle.rules.specs.declared.Cleared.{Cleared}
 use Rattle.rules.specs.declared.Cleared.the-variants as cleared
-use Rattle.rules.specs.declared.Totals.{Totals}
 use Rattle.rules.specs.declared.Reported.{Reported}
 use Rattle.rules.specs.declared.Reported.the-variants as reported
-use Rattle.rules.specs.Sets.{Below}
+use Rattle.rules.specs.Sets.{listOf}
 use Rattle.rules.specs.Wheels.{Legal}
-use Rattle.rules.specs.Paths.{Chip, cell, travel, claims, freeSlots, Stamped, Inside, Once, Rest}
-use Rattle.rules.specs.Flows.{flow, claiming, Own, Lawful, Agree, cellsOf}
-use Rattle.rules.specs.Numbers.{number, Refuses, Passes}
-use Rattle.rules.specs.Orders.{Tabled, Listed, openOrder, closeOrder, reportOrder}
+use Rattle.rules.specs.Paths.{Chip, cell, travel, allowed, claims, freeSlots, Stamped, Inside, Once}
+use Rattle.rules.specs.Flows.{none, flow, claiming, Blank, Own, Agree, cellsOf}
+use Rattle.rules.specs.Numbers.{number, Passes}
+use Rattle.rules.specs.Orders.{Tabled, openOrder, closeOrder, reportOrder}
 use Rattle.rules.specs.Promises.{Grants, Opens, Closes, Reports, openRecord, closedRecord, trimmed}
-use Rattle.laws.specs.Logic.{not-true-false, not-false-true, le-or-lt}
+use Rattle.laws.specs.Logic.{not-both, not-true-false, not-false-true}
 use Rattle.laws.specs.Sets.{within-below}
 use Rattle.laws.specs.Refusals.{settled, passes-not, same-number}
 use Rattle.laws.specs.Answers.{grants-unique}
@@ -35,6 +35,11 @@ use Rattle.ledger.specs.Trimmed.{trimmed-alike, trimmed-rest, claims-ali
 use Rattle.ledger.specs.Claims.{chosen-free, free-below}
 use Rattle.ledger.specs.Stamps.{stamped-unique, undone}
 use Rattle.ledger.specs.Agreement.{open-agree, close-agree}
+
+listed-long : (f : ℕ → ℕ) (m i : ℕ) → length (listOf f i m) ≡ m
+unfolding listOf
+listed-long f zero i = refl
+listed-long f (suc m) i = ap suc (listed-long f m (suc i))
 
 -- what is not refused holds
 long-stable : (chip : Chip) (t : List ℕ) → ¬ ¬ Tabled chip t → length t ≡ 64 * chip .channels
@@ -147,12 +152,33 @@ module _ (chip : Chip) (t : List ℕ) (n : ℕ) (list : List Record) where
         time = omega (arith, from8 .1 .1 .1 .0);
       }
 
+-- a record that is closed and has zeros throughout is the closed record, its path having its sixteen entries
+blank-closed : (r : Record) → r .state ≡ Closed → Blank r → length (r .path) ≡ 16 → r ≡ closedRecord
+unfolding closedRecord trimmed
+blank-closed r e b long = λ i. record { state = e i; path = zeros i; len = b .len i; slots = b .slots i }
+  where
+    sixteen : length (trimmed [] 0) ≡ 16
+    sixteen = listed-long _ 16 0
+
+    zeros : r .path ≡ trimmed [] 0
+    zeros = ext-getD 0 (r .path) (trimmed [] 0) (long ∙ sym sixteen) λ i h.
+        b .path .at i (omega arith) (omega arith) ∙ sym (trimmed-rest [] 0 .at i (omega arith) (omega arith))
+
+-- a record that was replaced and is put back
+put-back : (list : List Record) (i : ℕ) (r q : Record) → i < length list → flow list i ≡ q → set (set list i r) i q ≡ list
+put-back list i r q h e =
+    ext-getD none (set (set list i r) i q) list (simp length-set) λ k l. go k (ℕ-discrete k i)
+  where
+    go : (k : ℕ) → Dec (k ≡ i) → getD (set (set list i r) i q) k none ≡ getD list k none
+    go k (yes s) = rw s (getD-set-same (set list i r) i q none (simp length-set h) ∙ sym e)
+    go k (no s) = getD-set-other (set list i r) i k q none s ∙ getD-set-other list i k r none s
+
 -- ---- agreement is kept
 
 module _ (chip : Chip) (t : List ℕ) (n : ℕ) (list : List Record) (legal : Legal (chip .wheel)) (tabled : Tabled chip t)
     (fits : n ≤ length list) (agree : Agree chip t n list) where
   module _ (path : List ℕ) (m f : ℕ) (d : Demand) (g : Grant) (seen : Seen chip n list path m f d)
-      (granted : Grants (chip .wheel) (freeSlots chip t path m) (d .words .0) (Rattle.rules.specs.Paths.allowed chip path m (d .deadline)) g) where
+      (granted : Grants (chip .wheel) (freeSlots chip t path m) (d .words .0) (allowed chip path m (d .deadline)) g) where
     new-lawful : Own chip (openRecord path m (g .slots) d .state) (openRecord path m (g .slots) d)
     unfolding Own openRecord
     new-lawful =
@@ -172,3 +198,91 @@ module _ (chip : Chip) (t : List ℕ) (n : ℕ) (list : List Record) (legal : Le
     new-claims : (c j : ℕ) → claims chip (openRecord path m (g .slots) d .path) m (g .slots) c j ≡ claims chip path m (g .slots) c j
     unfolding openRecord
     new-claims c j = sym (claims-alike chip m (trimmed-alike path m (seen .fits)) (g .slots) c j)
+
+    new-claiming : claiming (openRecord path m (g .slots) d .state) ≡ true
+    unfolding openRecord claiming
+    new-claiming = refl
+
+    new-cells : cellsOf chip (openRecord path m (g .slots) d) ≡ g .count * m
+    unfolding cellsOf openRecord claiming
+    new-cells = ap (λ k. k * m) (sym (granted .count))
+
+    new-stamped : (u v : List ℕ) → Stamped chip (openRecord path m (g .slots) d .path) (openRecord path m (g .slots) d .len) (openRecord path m (g .slots) d .slots) 0 u v
+        → Stamped chip path m (g .slots) 0 u v
+    unfolding openRecord
+    new-stamped u v stamped =
+        record { long = stamped .long; at = λ c j h k. stamped .at c j h k ∙ ap (λ b. cond b 0 (cell u c j)) (new-claims c j) }
+
+    -- a granted opening claims cells that were 0, writes its number there, and leaves table and list in agreement
+    granted-keeps : (t′ : List ℕ) → Stamped chip path m (g .slots) f t t′ → Agree chip t′ n (set list (f - 1) (openRecord path m (g .slots) d))
+    unfolding openRecord
+    granted-keeps t′ stamped =
+        let back : f - 1 + 1 ≡ f = omega (arith, seen .one) in
+        open-agree chip t t′ n list (f - 1) legal tabled fits (omega (arith, seen .one, seen .listed)) agree
+        (openRecord path m (g .slots) d) (seen .shut) new-claiming new-lawful
+        (λ c j e. chosen-free chip t path m (g .slots) c j (granted .best .within) (sym (new-claims c j) ∙ e))
+        (rw back (record { long = stamped .long; at = λ c j h k. stamped .at c j h k ∙ ap (λ b. cond b f (cell t c j)) (sym (new-claims c j)) }))
+
+  pub opens-keep : (path : List ℕ) (m f : ℕ) (d : Demand) (g : Grant) (t′ : List ℕ) (list′ : List Record)
+      → Opens chip t n list path m f d t′ list′ (opened.Granted g) → Agree chip t′ n list′
+  unfolding Opens
+  opens-keep path m f d g t′ list′ p =
+      subst (Agree chip t′ n) (sym (p .3)) (granted-keeps path m f d g (saw chip t n list path m f d (p .0)) (p .1) t′ (p .2))
+
+  -- and so does a closing
+  pub closes-keep : (f k : ℕ) (t′ : List ℕ) (list′ : List Record) → Closes chip t n list f t′ list′ (cleared.Cells k) → Agree chip t′ n list′
+  unfolding Closes Passes
+  closes-keep f k t′ list′ p =
+      let from8 = p .0 .1 .1 .1 .1 in
+      let known = neither (from8 .0) in
+      subst (Agree chip t′ n) (sym (p .3))
+      (close-agree chip t t′ n list (f - 1) legal tabled fits (omega (arith, known .0, known .1)) agree (not-false-true _ (from8 .1 .0)) (p .2))
+
+  -- ---- open, then close
+
+  shut-closed : (f : ℕ) → f < n → claiming (flow list f .state) ≡ false → length (flow list f .path) ≡ 16 → flow list f ≡ closedRecord
+  unfolding Own claiming
+  shut-closed f h shut long = go (flow list f .state) refl shut (agree .own f h)
+    where
+      go : (s : State) → flow list f .state ≡ s → claiming s ≡ false → Own chip s (flow list f) → flow list f ≡ closedRecord
+      go Closed e q own = blank-closed (flow list f) e own long
+      go (Open d) e q own = absurd (not-both refl q)
+
+  -- closing a flow at once after it was opened clears as many cells as were written and gives table and list back
+  pub open-close : (path : List ℕ) (m f : ℕ) (d : Demand) (g : Grant) (t′ t″ : List ℕ) (list′ list″ : List Record) (a : Cleared)
+      → length (flow list (f - 1) .path) ≡ 16 → Opens chip t n list path m f d t′ list′ (opened.Granted g) → Closes chip t′ n list′ f t″ list″ a
+      → (a ≡ cleared.Cells (g .count * m)) × (t″ ≡ t) × (list″ ≡ list)
+  unfolding Opens Closes Passes
+  open-close path m f d g t′ t″ list′ list″ a long p q =
+      let seen = saw chip t n list path m f d (p .0) in
+      let at : f - 1 < length list = omega (arith, seen .one, seen .listed) in
+      let here = ap (λ l. flow l (f - 1)) (p .3) ∙ getD-set-same list (f - 1) (openRecord path m (g .slots) d) none at in
+      let was = shut-closed (f - 1) (omega (arith, seen .one, seen .listed)) (seen .shut) long in
+      go a q seen at here was
+    where
+      new : Record
+      new = openRecord path m (g .slots) d
+
+      go : (a : Cleared) → Closes chip t′ n list′ f t″ list″ a → Seen chip n list path m f d → f - 1 < length list
+          → flow list′ (f - 1) ≡ openRecord path m (g .slots) d → flow list (f - 1) ≡ closedRecord
+          → (a ≡ cleared.Cells (g .count * m)) × (t″ ≡ t) × (list″ ≡ list)
+      go (cleared.Cells k) q seen at here was = (
+        ap cleared.Cells (q .1 ∙ ap (cellsOf chip) here ∙ new-cells path m f d g seen (p .1)),
+        undone chip path m (g .slots) (chip .channels) f t t′ t″ (tabled .long)
+            (λ c j _ _ e. chosen-free chip t path m (g .slots) c j (p .1 .best .within) e)
+            (p .2)
+            (new-stamped path m f d g seen (p .1) t′ t″ (rw here at (q .2))),
+        q .3 ∙ ap (λ l. set l (f - 1) closedRecord) (p .3) ∙ put-back list (f - 1) new closedRecord at was,
+      )
+      go (cleared.Refused r) q seen at here was = absurd (passes-not (closeOrder chip t′ n list′ f) (number r) passes (q .0))
+        where
+          long′ : Tabled chip t′
+          long′ = record { c1 = tabled .c1; c64 = tabled .c64; long = p .2 .long ∙ tabled .long }
+
+          open-now : ¬ (claiming (flow list′ (f - 1) .state) ≡ false)
+          open-now e = not-both (ap (λ x. claiming (x .state)) here ∙ new-claiming path m f d g seen (p .1)) e
+
+          passes : Passes (closeOrder chip t′ n list′ f)
+          passes =
+              let from3 = p .0 .1 .1 in
+              (λ n₁. n₁ legal, (λ n₂. n₂ long′, (from3 .0, (λ n₄. n₄ (opens-keep path m f d g t′ list′ p), (from3 .1 .1 .1 .1 .1 .0, (open-now, tt))))))
