@@ -1,14 +1,15 @@
 -- A path is its first m entries: two paths that have these in common take as long, are seen alike and claim the same
 -- cells. A trimmed path, with zeros in its unused entries, is one of them.
 use mathlib.Core.Path.{_≡_, refl, sym, ap, _∙_}
-use mathlib.Core.Bool.{_&&_, cond}
+use mathlib.Core.Bool.{Bool, true, false, _&&_, cond}
 use mathlib.Core.List.{List}
 use Prim.Native.Nat.{ℕ, zero, suc, _+_, _≤_, _<_}
 use native.Mathlib.Omega.{arith}
 use native.Mathlib.Nat.{add-suc, suc-add, add-zero, zero-add}
-use lib.ListN.{getD}
+use lib.ListN.{getD, length}
+use lib.Seq.{ext-getD}
 use lib.Dec.{eqb, ltb}
-use borrow.Author.Tests.{lt-ltb, le-ltb}
+use borrow.Author.Tests.{lt-ltb, le-ltb, ltb-true, ltb-false}
 use Rattle.rules.specs.Sets.{listOf}
 use Rattle.rules.specs.Paths.{Chip, shift, travel, allowed, seen, reached, claims, Inside, Once, Rest}
 use Rattle.rules.specs.Promises.{trimmed}
@@ -58,6 +59,21 @@ list-at f (suc m) i (suc d) h = list-at f m (suc i) d (omega arith) ∙ ap f (su
 entry : (path : List ℕ) (m i : ℕ) → i < 16 → getD (trimmed path m) i 0 ≡ cond (ltb i m) (getD path i 0) 0
 unfolding trimmed
 entry path m i h = list-at _ 16 0 i h ∙ ap (λ k. cond (ltb k m) (getD path k 0) 0) (zero-add i)
+
+list-length : (f : ℕ → ℕ) (m i : ℕ) → length (listOf f i m) ≡ m
+unfolding listOf
+list-length f zero i = refl
+list-length f (suc m) i = ap suc (list-length f m (suc i))
+
+-- sixteen entries, those from m on zero, and the others those of the path
+pub trimmed-is : (path p : List ℕ) (m : ℕ) → length p ≡ 16 → ((i : ℕ) → i < m → getD p i 0 ≡ getD path i 0) → Rest p m → p ≡ trimmed path m
+unfolding trimmed
+trimmed-is path p m long same rest =
+    ext-getD 0 p _ (long ∙ sym (list-length _ 16 0)) λ i h. go i (omega arith) (ltb i m) refl ∙ sym (entry path m i (omega arith))
+  where
+    go : (i : ℕ) → i < 16 → (b : Bool) → ltb i m ≡ b → getD p i 0 ≡ cond (ltb i m) (getD path i 0) 0
+    go i h true e = same i (ltb-true i m e) ∙ sym (ap (λ b. cond b (getD path i 0) 0) e)
+    go i h false e = rest .at i (ltb-false i m e) h ∙ sym (ap (λ b. cond b (getD path i 0) 0) e)
 
 pub trimmed-alike : (path : List ℕ) (m : ℕ) → m ≤ 16 → Alike path (trimmed path m) m
 trimmed-alike path m fits =

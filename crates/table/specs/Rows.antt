@@ -5,7 +5,7 @@ use mathlib.Core.Bool.{Bool, true, false, _&&_, _||_, cond}
 use mathlib.Core.List.{List}
 use Prim.Native.Nat.{ℕ, _+_, _-_, _*_, _%_, _≤_, _<_}
 use native.Mathlib.Omega.{arith}
-use native.Mathlib.Nat.{mod-lt, zero-add}
+use native.Mathlib.Nat.{add-mod-mod, mod-lt, zero-add}
 use lib.ListN.{getD, set, length, take, drop}
 use lib.Seq.{getD-set-same, getD-set-other}
 use lib.Dec.{eqb}
@@ -13,6 +13,7 @@ use borrow.Author.Tests.{eqb-true, eqb-false}
 use Rattle.rules.specs.declared.Wheel.{Wheel}
 use Rattle.rules.specs.Tells.{Tells}
 use Rattle.rules.specs.Sets.{has, any, all, setOf}
+use Rattle.rules.specs.Wheels.{Legal}
 use Rattle.rules.specs.Paths.{Chip, chipOf, cell, shift, seen, usable, free, freeSlots, reached, claims, Stamped, Inside}
 use Rattle.rules.specs.Orders.{Tabled}
 use Rattle.laws.specs.Search.{any-more, any-same, all-more}
@@ -65,18 +66,31 @@ row-room walk i h = omega (arith, walk .inside .at i h, walk .rows)
 pub lent-row : (t : List ℕ) (d c j : ℕ) → d ≡ c → j < 64 → getD (take (64 * d + 64 - 64 * d) (drop (64 * d) t)) j 0 ≡ cell t c j
 lent-row t d c j e h = lent-cell t (64 * d) (64 * d + 64 - 64 * d) c j (ap (λ k. 64 * k) e) (omega arith)
 
--- position i of a path is i slots later
-pub seen-later : (chip : Chip) (path : List ℕ) (i s : ℕ) → seen chip path i s ≡ later (chip .wheel .n) i s
-unfolding seen shift later
-seen-later chip path i s = refl
-
-pub reached-hits : (chip : Chip) (path : List ℕ) (x i j u : ℕ) → reached chip path x i j u ≡ hits (chip .wheel .n) i x j u
-unfolding reached hits
-reached-hits chip path x i j u = any-same _ _ u λ s h. rw (seen-later chip path i s)
-
 pub later-below : (n k s : ℕ) → 1 ≤ n → later n k s < n
 unfolding later
-later-below n k s n1 = mod-lt (s + k) n1
+later-below n k s n1 = mod-lt _ n1
+
+-- position i of a path is i slots later
+pub shift-is : (chip : Chip) (path : List ℕ) (i : ℕ) → i ≡ shift chip path i
+unfolding shift
+shift-is chip path i = refl
+
+-- the leaves are told the shift of position i as k, turned round the wheel
+module _ (chip : Chip) (path : List ℕ) (i k : ℕ) (turned : k ≡ shift chip path i % chip .wheel .n) where
+  pub seen-later : (s : ℕ) → seen chip path i s ≡ later (chip .wheel .n) k s
+  unfolding seen later
+  seen-later s = rw turned (sym (add-mod-mod s (shift chip path i) (chip .wheel .n)))
+
+  pub reached-hits : (x j u : ℕ) → reached chip path x i j u ≡ hits (chip .wheel .n) k x j u
+  unfolding reached hits
+  reached-hits x j u = any-same _ _ u λ s h. rw (seen-later s)
+
+  -- a cell of the row of position i that is lent
+  pub seen-lent : (t : List ℕ) (d : ℕ) → d ≡ getD path i 0 → Legal (chip .wheel) → (s : ℕ)
+      → getD (take (64 * d + 64 - 64 * d) (drop (64 * d) t)) (later (chip .wheel .n) k s) 0 ≡ cell t (getD path i 0) (seen chip path i s)
+  seen-lent t d e legal s =
+      lent-row t d (getD path i 0) (later (chip .wheel .n) k s) e (omega (arith, later-below (chip .wheel .n) k s (legal .n1), legal .n64))
+      ∙ ap (cell t (getD path i 0)) (sym (seen-later s))
 
 -- ---- free slots
 
@@ -85,14 +99,15 @@ unfolding free all
 free-start chip t path = refl
 
 -- the row of position i has been asked
-pub free-turn : (chip : Chip) (t path row : List ℕ) (i x : ℕ) → 1 ≤ chip .wheel .n → x ≡ setOf (free chip t path i) 0 (chip .wheel .n)
+pub free-turn : (chip : Chip) (t path row : List ℕ) (i k x : ℕ) → 1 ≤ chip .wheel .n → k ≡ shift chip path i % chip .wheel .n
+    → x ≡ setOf (free chip t path i) 0 (chip .wheel .n)
     → ((j : ℕ) → j < chip .wheel .n → getD row j 0 ≡ cell t (getD path i 0) j)
-    → setOf (stays row (chip .wheel .n) i x) 0 (chip .wheel .n) ≡ setOf (free chip t path (i + 1)) 0 (chip .wheel .n)
+    → setOf (stays row (chip .wheel .n) k x) 0 (chip .wheel .n) ≡ setOf (free chip t path (i + 1)) 0 (chip .wheel .n)
 unfolding free stays usable
-free-turn chip t path row i x n1 made cells =
+free-turn chip t path row i k x n1 turned made cells =
     set-same _ _ (chip .wheel .n) λ s h.
-    rw (all-more, made, seen-later chip path i s, ← cells (later (chip .wheel .n) i s) (later-below (chip .wheel .n) i s n1))
-    (ap (λ b. b && eqb (getD row (later (chip .wheel .n) i s) 0) 0) (has-set _ (chip .wheel .n) 0 s h ∙ ap (free chip t path i) (zero-add s)))
+    rw (all-more, made, seen-later chip path i k turned s, ← cells (later (chip .wheel .n) k s) (later-below (chip .wheel .n) k s n1))
+    (ap (λ b. b && eqb (getD row (later (chip .wheel .n) k s) 0) 0) (has-set _ (chip .wheel .n) 0 s h ∙ ap (free chip t path i) (zero-add s)))
 
 pub free-end : (chip : Chip) (t path : List ℕ) (m x : ℕ) → x ≡ setOf (free chip t path m) 0 (chip .wheel .n) → x ≡ freeSlots chip t path m
 unfolding freeSlots
@@ -125,32 +140,32 @@ module _ (n k x v : ℕ) (row : List ℕ) (s j old : ℕ) (marked : getD row j 0
 -- ---- marking a path, row by row
 
 -- the row of position i, lent from the table t, has come back as ys
-pub mark-turn : (chip : Chip) (path : List ℕ) (x v : ℕ) (t₀ t : List ℕ) (i : ℕ) (ys : List ℕ) (d : ℕ) → Stamped chip path i x v t₀ t
-    → d ≡ getD path i 0 → 64 * getD path i 0 + 64 ≤ length t → length ys ≡ 64
-    → RowStamped (chip .wheel .n) i x v (take (64 * d + 64 - 64 * d) (drop (64 * d) t)) ys
+pub mark-turn : (chip : Chip) (path : List ℕ) (x v : ℕ) (t₀ t : List ℕ) (i k : ℕ) (ys : List ℕ) (d : ℕ)
+    → k ≡ shift chip path i % chip .wheel .n → Stamped chip path i x v t₀ t → d ≡ getD path i 0 → 64 * getD path i 0 + 64 ≤ length t → length ys ≡ 64
+    → RowStamped (chip .wheel .n) k x v (take (64 * d + 64 - 64 * d) (drop (64 * d) t)) ys
     → Stamped chip path (i + 1) x v t₀ (returned (64 * d) (64 * d + 64 - 64 * d) t ys)
-mark-turn chip path x v t₀ t i ys d stamped e room long marked =
-    let k = 64 * d + 64 - 64 * d in
-    stamp-turn chip path x v t₀ t i ys (64 * d) k stamped (ap (λ c. 64 * c) e) (omega arith) room long
-    (λ j h. marked .at j h ∙ ap (λ b. cond b v (getD (take k (drop (64 * d) t)) j 0)) (sym (reached-hits chip path x i j (chip .wheel .n))))
+mark-turn chip path x v t₀ t i k ys d turned stamped e room long marked =
+    let size = 64 * d + 64 - 64 * d in
+    stamp-turn chip path x v t₀ t i ys (64 * d) size stamped (ap (λ c. 64 * c) e) (omega arith) room long
+    (λ j h. marked .at j h ∙ ap (λ b. cond b v (getD (take size (drop (64 * d) t)) j 0)) (sym (reached-hits chip path i k turned x j (chip .wheel .n))))
 
 -- ---- cells that hold v, position by position
 
 module _ (chip : Chip) (t path : List ℕ) (m x v : ℕ) where
-  pub rows-hold : ((i : ℕ) → i < m → (s : ℕ) → s < chip .wheel .n → has x s ≡ true → cell t (getD path i 0) (later (chip .wheel .n) i s) ≡ v)
+  pub rows-hold : ((i : ℕ) → i < m → (s : ℕ) → s < chip .wheel .n → has x s ≡ true → cell t (getD path i 0) (seen chip path i s) ≡ v)
       → Holds chip t path m x v
   rows-hold each =
       record {
         at = λ c j e.
             let k = claim-found chip path m x c j e in
             ap (λ d. cell t d j) (sym (k .here))
-            ∙ ap (cell t (getD path (k .position) 0)) (sym (k .there) ∙ seen-later chip path (k .position) (k .slot))
+            ∙ ap (cell t (getD path (k .position) 0)) (sym (k .there))
             ∙ each (k .position) (k .on-path) (k .slot) (k .on-wheel) (k .chosen);
       }
 
   pub hold-rows : Holds chip t path m x v → (i : ℕ) → i < m → (s : ℕ) → s < chip .wheel .n → has x s ≡ true
-      → cell t (getD path i 0) (later (chip .wheel .n) i s) ≡ v
+      → cell t (getD path i 0) (seen chip path i s) ≡ v
   hold-rows holds i h s l e =
-      holds .at (getD path i 0) (later (chip .wheel .n) i s)
-      (claim-made chip path m x (getD path i 0) (later (chip .wheel .n) i s)
-      (record { position = i; slot = s; on-path = h; on-wheel = l; here = refl; chosen = e; there = seen-later chip path i s }))
+      holds .at (getD path i 0) (seen chip path i s)
+      (claim-made chip path m x (getD path i 0) (seen chip path i s)
+      (record { position = i; slot = s; on-path = h; on-wheel = l; here = refl; chosen = e; there = refl }))

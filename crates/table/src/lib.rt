@@ -55,13 +55,19 @@ pub fn row(table: &[u8], w: Wheel, c: usize) -> &[u8]
     &table[from..to]
 }
 
-// Slot s of a path, as a channel counts it where the flow is k slots later.
+// Slot s of a path, as a channel counts it where the flow is k slots later. Both are below n, so
+// that one comparison turns the slot round the wheel.
 fn seen(s: PathSlot, n: usize, k: usize) -> ChannelSlot
-    requires { ⌜ (n ≤ 64) × (k ≤ 64) × (s .0 < n) ⌝ }
+    requires { ⌜ (n ≤ 64) × (k < n) × (s .0 < n) ⌝ }
     ensures { λ r. ⌜ (r .0 ≡ later n k (s .0)) × (r .0 < n) ⌝ }
 {
     let first = s.0;
-    ChannelSlot((first + k) % n)
+    let j = first + k;
+    if j < n {
+        ChannelSlot(j)
+    } else {
+        ChannelSlot(j - n)
+    }
 }
 
 // The set of all slots of the wheel.
@@ -74,7 +80,7 @@ fn all_slots(w: Wheel) -> u64
 
 // Whether slot s is in x and its cell in the row is free, the flow being k slots later there.
 fn stays(row: &[u8], n: usize, k: usize, x: u64, s: usize) -> bool
-    requires { ⌜ (n ≤ 64) × (k ≤ 64) × (s < n) × (length (now row) ≡ 64) ⌝ }
+    requires { ⌜ (n ≤ 64) × (k < n) × (s < n) × (length (now row) ≡ 64) ⌝ }
     ensures { λ r. ⌜ r ≡ stays (now (row .entry)) n k x s ⌝ }
 {
     if !measure::has_slot(x, s) {
@@ -88,7 +94,7 @@ fn stays(row: &[u8], n: usize, k: usize, x: u64, s: usize) -> bool
 // The slots of x whose cells in the row are free.
 fn still_free(row: &[u8], w: Wheel, k: usize, x: u64) -> u64
     requires { ⌜ Legal w ⌝ }
-    requires { ⌜ (k ≤ 64) × (length (now row) ≡ 64) ⌝ }
+    requires { ⌜ (k < w .n) × (length (now row) ≡ 64) ⌝ }
     ensures { λ r. ⌜ r ≡ setOf (stays (now (row .entry)) (w .n) k x) 0 (w .n) ⌝ }
 {
     let n = w.n;
@@ -124,7 +130,7 @@ pub fn free_slots(table: &[u8], w: Wheel, path: [u16; 16], len: usize) -> u64
         let c = wide(path[i]);
         let from = 64 * c;
         let to = from + 64;
-        x = still_free(&table[from..to], w, i, x);
+        x = still_free(&table[from..to], w, i % w.n, x);
         i += 1;
     }
     x
@@ -133,7 +139,7 @@ pub fn free_slots(table: &[u8], w: Wheel, path: [u16; 16], len: usize) -> u64
 // Writes v into the cells of a row that the slots x reach, the flow being k slots later there.
 fn mark_row(row: &mut [u8], w: Wheel, k: usize, x: u64, v: u8)
     requires { ⌜ Legal w ⌝ }
-    requires { ⌜ (k ≤ 64) × (length (now row) ≡ 64) ⌝ }
+    requires { ⌜ (k < w .n) × (length (now row) ≡ 64) ⌝ }
     ensures { λ _. ⌜ RowStamped (w .n) k x v (now (row .entry)) (now (row .exit)) ⌝ }
 {
     let n = w.n;
@@ -159,7 +165,7 @@ pub fn mark(table: &mut [u8], w: Wheel, path: [u16; 16], len: usize, x: u64, v: 
         let c = wide(path[i]);
         let from = 64 * c;
         let to = from + 64;
-        mark_row(&mut table[from..to], w, i, x, v);
+        mark_row(&mut table[from..to], w, i % w.n, x, v);
         i += 1;
     }
 }
@@ -167,7 +173,7 @@ pub fn mark(table: &mut [u8], w: Wheel, path: [u16; 16], len: usize, x: u64, v: 
 // Whether the cells of a row that the slots x reach hold v, the flow being k slots later there.
 fn row_holds(row: &[u8], w: Wheel, k: usize, x: u64, v: u8) -> bool
     requires { ⌜ Legal w ⌝ }
-    requires { ⌜ (k ≤ 64) × (length (now row) ≡ 64) ⌝ }
+    requires { ⌜ (k < w .n) × (length (now row) ≡ 64) ⌝ }
     ensures { λ r. ⌜ Tells r (RowHolds (w .n) k x v (now (row .entry))) ⌝ }
 {
     let n = w.n;
@@ -196,7 +202,7 @@ pub fn holds(table: &[u8], w: Wheel, path: [u16; 16], len: usize, x: u64, v: u8)
         let c = wide(path[i]);
         let from = 64 * c;
         let to = from + 64;
-        if !row_holds(&table[from..to], w, i, x, v) {
+        if !row_holds(&table[from..to], w, i % w.n, x, v) {
             return false;
         }
         i += 1;

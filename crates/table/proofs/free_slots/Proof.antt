@@ -1,11 +1,12 @@
 -- After i positions x has the slots that are free as far as position i.
-use mathlib.Core.Path.{_≡_, _∙_}
-use Prim.Native.Nat.{_-_, _≤_}
+use mathlib.Core.Path.{_≡_, ap, _∙_}
+use Prim.Native.Nat.{_-_, _%_, _≤_}
 use native.Mathlib.Omega.{arith}
+use native.Mathlib.Nat.{mod-lt}
 use lib.ListN.{length-take, length-drop}
 use Rattle.rules.specs.Sets.{setOf}
 use Rattle.rules.specs.Paths.{chipOf, free}
-use Rattle.table.specs.Rows.{row-room, lent-row, free-start, free-turn, free-end}
+use Rattle.table.specs.Rows.{row-room, lent-row, shift-is, free-start, free-turn, free-end}
 use Rattle.table.proofs.free_slots.Statement.{statement}
 use Rattle.table.proofs.free_slots.Tie as tie
 
@@ -47,11 +48,15 @@ part-still-free-start c = omega arith
 part-still-free-end : tie.Need-part-still-free-end Inv-loop μ-loop
 part-still-free-end c = omega (arith, c .wide .ensures, row-room (c .before .before .before .before .before .pre .1) (c .before .before .loop .i) (omega arith))
 
+rem-still-free : tie.Need-rem-still-free Inv-loop μ-loop
+rem-still-free c = omega arith
+
 still-free-requires : tie.Need-still-free-requires Inv-loop μ-loop
 still-free-requires c κs =
-    let st = c .before .before .before .before .before .before in
-    let room = row-room (st .pre .1) (c .before .before .before .loop .i) (omega arith) in
-    (st .pre .0, (omega arith, simp (length-take, length-drop) (omega (arith, c .before .wide .ensures, room))))
+    let st = c .before .before .before .before .before .before .before in
+    let at = c .before .before .before .before .loop in
+    let room = row-room (st .pre .1) (at .i) (omega arith) in
+    (st .pre .0, (mod-lt _ (st .pre .0 .n1), simp (length-take, length-drop) (omega (arith, c .before .before .wide .ensures, room))))
 
 add-i : tie.Need-add-i Inv-loop μ-loop
 add-i c = omega arith
@@ -61,13 +66,14 @@ loop-less c = omega arith
 
 loop-again : tie.Need-loop-again Inv-loop μ-loop
 loop-again c =
-    let st = c .before .before .before .before .before .before .before in
-    let at = c .before .before .before .before .loop in
+    let st = c .before .before .before .before .before .before .before .before in
+    let at = c .before .before .before .before .before .loop in
     let t = st .args .table .now in
-    let wd = c .before .before .wide in (
+    let chip = chipOf (st .args .w) t in
+    let wd = c .before .before .before .wide in (
       omega arith,
       c .still-free .ensures
-          ∙ free-turn (chipOf (st .args .w) t) t (st .args .t3) _ (at .i) (at .x) (st .pre .0 .n1) (at .inv .1)
+          ∙ free-turn chip t (st .args .t3) _ (at .i) _ (at .x) (st .pre .0 .n1) (ap (λ k. k % st .args .w .n) (shift-is chip (st .args .t3) (at .i))) (at .inv .1)
           (λ j h. lent-row t (wd .result) _ j (wd .ensures) (omega (arith, st .pre .0 .n64))),
     )
 
@@ -93,6 +99,7 @@ free-slots-spec =
     sub-still-free
     part-still-free-start
     part-still-free-end
+    rem-still-free
     still-free-requires
     add-i
     loop-less

@@ -1,21 +1,22 @@
 -- The rows of the positions below i hold v where the slots reach them.
-use mathlib.Core.Path.{_≡_, sym, _∙_}
+use mathlib.Core.Path.{_≡_, sym, ap, _∙_}
 use mathlib.Core.Bool.{true}
-use Prim.Native.Nat.{ℕ, _-_, _≤_, _<_}
+use Prim.Native.Nat.{ℕ, _-_, _%_, _≤_, _<_}
 use native.Mathlib.Omega.{arith}
+use native.Mathlib.Nat.{mod-lt}
 use lib.ListN.{getD, length-take, length-drop}
 use borrow.Author.Tests.{not-true, not-false}
 use borrow.Author.Count.{below-more}
 use Rattle.rules.specs.Sets.{has}
-use Rattle.rules.specs.Paths.{chipOf, cell}
+use Rattle.rules.specs.Paths.{chipOf, cell, seen}
 use Rattle.laws.specs.Logic.{tells-yes, tells-no}
-use Rattle.table.specs.Rows.{later, later-below, row-room, lent-row, rows-hold, hold-rows}
+use Rattle.table.specs.Rows.{row-room, shift-is, rows-hold, hold-rows, seen-lent}
 use Rattle.table.proofs.holds.Statement.{statement}
 use Rattle.table.proofs.holds.Tie as tie
 
 abbrev Inv-loop : tie.InvT-loop
 Inv-loop table w len x v path i₀ i =
-    (i ≤ len) × ((p : ℕ) → p < i → (s : ℕ) → s < w .n → has x s ≡ true → cell table (getD path p 0) (later (w .n) p s) ≡ v)
+    (i ≤ len) × ((p : ℕ) → p < i → (s : ℕ) → s < w .n → has x s ≡ true → cell table (getD path p 0) (seen (chipOf w table) path p s) ≡ v)
 
 abbrev μ-loop : tie.MeasureT-loop
 μ-loop table w len x v path i₀ i = len - i
@@ -47,26 +48,31 @@ part-row-holds-start c = omega arith
 part-row-holds-end : tie.Need-part-row-holds-end Inv-loop μ-loop
 part-row-holds-end c = omega (arith, c .wide .ensures, row-room (c .before .before .before .before .pre .1) (c .before .before .loop .i) (omega arith))
 
+rem-row-holds : tie.Need-rem-row-holds Inv-loop μ-loop
+rem-row-holds c = omega arith
+
 row-holds-requires : tie.Need-row-holds-requires Inv-loop μ-loop
 row-holds-requires c κs =
-    let st = c .before .before .before .before .before in
-    let room = row-room (st .pre .1) (c .before .before .before .loop .i) (omega arith) in
-    (st .pre .0, (omega arith, simp (length-take, length-drop) (omega (arith, c .before .wide .ensures, room))))
+    let st = c .before .before .before .before .before .before in
+    let at = c .before .before .before .before .loop in
+    let room = row-room (st .pre .1) (at .i) (omega arith) in
+    (st .pre .0, (mod-lt _ (st .pre .0 .n1), simp (length-take, length-drop) (omega (arith, c .before .before .wide .ensures, room))))
 
 returns : tie.Need-returns Inv-loop μ-loop
 returns c =
-    let st = c .before .before .before .before .before .before .before in
-    let at = c .before .before .before .before .before .loop in
-    let t = st .args .table .now in
-    let n = st .args .w .n in
-    let wd = c .before .before .before .wide in
+    let st = c .before .before .before .before .before .before .before .before in
+    let at = c .before .before .before .before .before .before .loop in
+    let wd = c .before .before .before .before .wide in
+    let a = st .args in
+    let chip = chipOf (a .w) (a .table .now) in
+    let turned = ap (λ k. k % a .w .n) (shift-is chip (a .t3) (at .i)) in
     tells-no
     (λ f.
     c .before .row-holds .ensures .no (not-true _ (c .if1 .taken))
     (record {
       at = λ s h e.
-          lent-row t (wd .result) _ (later n (at .i) s) (wd .ensures) (omega (arith, st .pre .0 .n64, later-below n (at .i) s (st .pre .0 .n1)))
-          ∙ hold-rows (chipOf (st .args .w) t) t (st .args .t3) (st .args .len) (st .args .x) (st .args .v) f (at .i) (omega arith) s h e;
+          seen-lent chip (a .t3) (at .i) _ turned (a .table .now) (wd .result) (wd .ensures) (st .pre .0) s
+          ∙ hold-rows chip (a .table .now) (a .t3) (a .len) (a .x) (a .v) f (at .i) (omega arith) s h e;
     }))
 
 add-i : tie.Need-add-i Inv-loop μ-loop
@@ -77,16 +83,17 @@ loop-less c = omega arith
 
 loop-again : tie.Need-loop-again Inv-loop μ-loop
 loop-again c =
-    let st = c .before .before .before .before .before .before .before in
-    let at = c .before .before .before .before .before .loop in
-    let t = st .args .table .now in
-    let n = st .args .w .n in
-    let wd = c .before .before .before .wide in
+    let st = c .before .before .before .before .before .before .before .before in
+    let at = c .before .before .before .before .before .before .loop in
+    let wd = c .before .before .before .before .wide in
+    let a = st .args in
+    let chip = chipOf (a .w) (a .table .now) in
+    let turned = ap (λ k. k % a .w .n) (shift-is chip (a .t3) (at .i)) in
     let here = c .before .row-holds .ensures .yes (not-false _ (c .if1 .left)) in (
       omega arith,
       below-more _ _ (at .inv .1)
           (λ s h e.
-          sym (lent-row t (wd .result) _ (later n (at .i) s) (wd .ensures) (omega (arith, st .pre .0 .n64, later-below n (at .i) s (st .pre .0 .n1)))) ∙ here .at s h e),
+          sym (seen-lent chip (a .t3) (at .i) _ turned (a .table .now) (wd .result) (wd .ensures) (st .pre .0) s) ∙ here .at s h e),
     )
 
 returns-2 : tie.Need-returns-2 Inv-loop μ-loop
@@ -109,6 +116,7 @@ holds-spec =
     sub-row-holds
     part-row-holds-start
     part-row-holds-end
+    rem-row-holds
     row-holds-requires
     returns
     add-i

@@ -1,11 +1,12 @@
 -- After i positions the cells that the path claims as far as position i hold v, and all others are as before.
-use mathlib.Core.Path.{_≡_, _∙_}
-use Prim.Native.Nat.{_+_, _-_, _*_, _≤_}
+use mathlib.Core.Path.{_≡_, ap, _∙_}
+use Prim.Native.Nat.{_+_, _-_, _*_, _%_, _≤_}
 use native.Mathlib.Omega.{arith}
+use native.Mathlib.Nat.{mod-lt}
 use lib.ListN.{length, getD, length-take, length-drop}
 use Rattle.rules.specs.Paths.{chipOf, Stamped}
 use Rattle.ledger.specs.Stamps.{stamp-none}
-use Rattle.table.specs.Rows.{row-room, mark-turn}
+use Rattle.table.specs.Rows.{row-room, shift-is, mark-turn}
 use Rattle.table.proofs.mark.Statement.{statement}
 use Rattle.table.proofs.mark.Tie as tie
 
@@ -42,11 +43,15 @@ part-mark-row-start c = omega arith
 part-mark-row-end : tie.Need-part-mark-row-end Inv-loop μ-loop
 part-mark-row-end c = omega (arith, c .wide .ensures, row-room (c .before .before .before .before .pre .1) (c .before .before .loop .i) (omega arith))
 
+rem-mark-row : tie.Need-rem-mark-row Inv-loop μ-loop
+rem-mark-row c = omega arith
+
 mark-row-requires : tie.Need-mark-row-requires Inv-loop μ-loop
 mark-row-requires c κs =
-    let st = c .before .before .before .before .before in
-    let room = row-room (st .pre .1) (c .before .before .before .loop .i) (omega arith) in
-    (st .pre .0, (omega arith, simp (length-take, length-drop) (omega (arith, c .before .wide .ensures, room))))
+    let st = c .before .before .before .before .before .before in
+    let at = c .before .before .before .before .loop in
+    let room = row-room (st .pre .1) (at .i) (omega arith) in
+    (st .pre .0, (mod-lt _ (st .pre .0 .n1), simp (length-take, length-drop) (omega (arith, c .before .before .wide .ensures, room))))
 
 add-i : tie.Need-add-i Inv-loop μ-loop
 add-i c = omega arith
@@ -56,14 +61,15 @@ loop-less c = omega arith
 
 loop-again : tie.Need-loop-again Inv-loop μ-loop
 loop-again c =
-    let st = c .before .before .before .before .before .before .before .before in
-    let at = c .before .before .before .before .before .before .loop in
-    let wd = c .before .before .before .before .wide in
+    let st = c .before .before .before .before .before .before .before .before .before in
+    let at = c .before .before .before .before .before .before .before .loop in
+    let wd = c .before .before .before .before .before .wide in
+    let chip = chipOf (st .args .w) (st .args .table .now) in
     let mr = c .before .before .mark-row in
     let room : 64 * getD (st .args .t3) (at .i) 0 + 64 ≤ length (at .table) = omega (arith, at .inv .1 .long, row-room (st .pre .1) (at .i) (omega arith)) in (
       omega arith,
-      mark-turn (chipOf (st .args .w) (st .args .table .now)) (st .args .t3) (st .args .x) (st .args .v) (st .args .table .now) (at .table) (at .i)
-          (mr .last .0) (wd .result) (at .inv .1) (wd .ensures) room (mr .kept .0 ∙ simp (length-take, length-drop) (omega (arith, wd .ensures))) (mr .ensures),
+      mark-turn chip (st .args .t3) (st .args .x) (st .args .v) (st .args .table .now) (at .table) (at .i) _
+          (mr .last .0) (wd .result) (ap (λ k. k % st .args .w .n) (shift-is chip (st .args .t3) (at .i))) (at .inv .1) (wd .ensures) room (mr .kept .0 ∙ simp (length-take, length-drop) (omega (arith, wd .ensures))) (mr .ensures),
     )
 
 same-length : tie.Need-same-length Inv-loop μ-loop
@@ -89,6 +95,7 @@ mark-spec =
     sub-mark-row
     part-mark-row-start
     part-mark-row-end
+    rem-mark-row
     mark-row-requires
     add-i
     loop-less
