@@ -5,6 +5,7 @@ use mathlib.Core.Bool.{Bool, true, false}
 use mathlib.Core.List.{List, [], _∷_}
 use mathlib.Core.Logic.{_⊎_}
 use Prim.Native.Nat.{ℕ, _-_, _*_, _≤_, _<_}
+use Rattle.rules.specs.declared.Wheel.{Wheel}
 use Rattle.rules.specs.declared.Demand.{Demand}
 use Rattle.rules.specs.declared.State.{State}
 use Rattle.rules.specs.declared.Record.{Record}
@@ -14,18 +15,34 @@ use Rattle.rules.specs.declared.Cleared.{Cleared}
 use Rattle.rules.specs.declared.Cleared.the-variants as cleared
 use Rattle.rules.specs.declared.Reported.{Reported}
 use Rattle.rules.specs.declared.Reported.the-variants as reported
-use Rattle.rules.specs.Wheels.{Legal}
+use Rattle.rules.specs.Wheels.{Legal, size}
 use Rattle.rules.specs.Paths.{Chip, travel, allowed, freeSlots, Inside, Once, Stamped}
 use Rattle.rules.specs.Flows.{claiming, cellsOf}
 use Rattle.rules.specs.Numbers.{number, Line, line, Refuses, Passes}
 use Rattle.rules.specs.Orders.{Tabled, Listed, NoneDelivers, NoneMeets}
 use Rattle.rules.specs.Promises.{Grants, openRecord, closedRecord}
+use Rattle.agree.specs.Checks.{Ready}
+use Rattle.core.specs.declared.Gate.{Gate}
+use Rattle.core.specs.declared.Gate.the-variants as gate
 use Rattle.core.specs.declared.Opening.{Opening}
 use Rattle.core.specs.declared.Closing.{Closing}
+
+-- lines 8 and 10 of a closing, behind the gate
+abbrev pub flowLines : ℕ → State → ℕ → List Line
+flowLines n s f = line 8 ((f ≡ 0) ⊎ (n < f)) ∷ line 10 (claiming s ≡ false) ∷ []
+
+unfoldable pub DecidesFlow : Wheel → ℕ → Record → ℕ → Cleared → Type 0
+DecidesFlow w n r f (cleared.Cells k) = Passes (flowLines n (r .state) f) × (k ≡ size (w .n) (r .slots) * r .len)
+DecidesFlow w n r f (cleared.Refused q) = Refuses (flowLines n (r .state) f) (number q)
 
 module _ (chip : Chip) (t : List ℕ) (n : ℕ) (agreed : Bool) where
   abbrev pub checkedLines : List Line → List Line
   checkedLines rest = line 1 (¬ Legal (chip .wheel)) ∷ line 2 (¬ Tabled chip t) ∷ line 3 (¬ Listed n) ∷ line 4 (agreed ≡ false) ∷ rest
+
+  -- the four lines with which every call begins
+  unfoldable pub Gates : Gate → Type 0
+  Gates (gate.Shut r) = Refuses (checkedLines []) (number r)
+  Gates gate.Through = Ready chip t n × (agreed ≡ true)
 
   abbrev pub openLines : State → List ℕ → ℕ → ℕ → Demand → List Line
   openLines s path m f d =
@@ -42,7 +59,7 @@ module _ (chip : Chip) (t : List ℕ) (n : ℕ) (agreed : Bool) where
       ∷ [])
 
   abbrev pub closeLines : State → ℕ → List Line
-  closeLines s f = checkedLines (line 8 ((f ≡ 0) ⊎ (n < f)) ∷ line 10 (claiming s ≡ false) ∷ [])
+  closeLines s f = checkedLines (flowLines n s f)
 
   abbrev pub reportLines : List Line
   reportLines = checkedLines []
