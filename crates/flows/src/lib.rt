@@ -1,12 +1,12 @@
 // The tests of a path and of one record of the flow list: is every entry a channel, does none stand
 // twice, are unused entries zero, does the record obey its own rules.
 ghost use mathlib.Core.Path.{_≡_};
-ghost use Prim.Native.Nat.{_≤_, _<_};
+ghost use Prim.Native.Nat.{ℕ, _≤_, _<_};
 ghost use Rattle.rules.specs.Tells.{Tells};
 ghost use Rattle.rules.specs.Wheels.{Legal};
 ghost use Rattle.rules.specs.Best.{Meets};
 ghost use Rattle.rules.specs.Paths.{Once, Rest};
-ghost use Rattle.rules.specs.Flows.{claiming, Blank, Lawful, Own};
+ghost use Rattle.rules.specs.Flows.{claiming, Blank, Lawful, Own, cellsOf};
 ghost use Rattle.rules.specs.Promises.{trimmed};
 ghost use Rattle.flows.specs.Tests.{chipWith, TellsInside, Fresh};
 use rules::Demand;
@@ -162,6 +162,19 @@ pub fn own(w: Wheel, channels: usize, r: Record) -> bool
         State::Closed => blank(r),
         State::Open(d) => lawful(w, channels, d, r),
     }
+}
+
+// How many cells a record's flow holds: slots times path length, and none if it claims none.
+pub fn cells_of(w: Wheel, r: Record) -> usize
+    requires { ⌜ Legal w ⌝ }
+    requires { ⌜ r .len ≤ 16 ⌝ }
+    ensures { λ k. ⌜ ((c : ℕ) → k ≡ cellsOf (chipWith w c) r) ⌝ }
+{
+    let s = r.state;
+    if !claims_cells(s) {
+        return 0;
+    }
+    measure::size(w, r.slots) * r.len
 }
 
 // The path with zeros in its unused entries.

@@ -90,6 +90,13 @@ below-of x n h = record { below = λ i e. go i e (le-or-lt n i) }
 pub below-not : (x n : ℕ) → Below n x → (i : ℕ) → n ≤ i → has x i ≡ false
 below-not x n b i h = not-true-false (has x i) λ e. let l : i < n = b .below i e in omega arith
 
+pub set-below : (f : ℕ → Bool) (i m : ℕ) → Below m (setOf f i m)
+set-below f i m = record { below = λ s e. go s e (le-or-lt m s) }
+  where
+    go : (s : ℕ) → has (setOf f i m) s ≡ true → (m ≤ s) ⊎ (s < m) → s < m
+    go s e (inl l) = absurd (not-both e (has-set-over f m i s l))
+    go s e (inr l) = l
+
 pub below-shift : (x n : ℕ) → Below n x → x / 2 ^ n ≡ 0
 unfolding has
 below-shift x n b =

@@ -18,7 +18,7 @@ use Rattle.rules.specs.Paths.{Chip, cell, shift, seen, usable, free, freeSlots,
 use Rattle.rules.specs.Flows.{claiming, takes, Own}
 use Rattle.laws.specs.Logic.{not-both, and-true, le-or-lt}
 use Rattle.laws.specs.Search.{any-find, any-yes, all-each}
-use Rattle.laws.specs.Sets.{has-set, has-set-over}
+use Rattle.laws.specs.Sets.{has-set, has-set-over, set-below}
 
 -- ---- a slot as a channel sees it
 
@@ -126,11 +126,8 @@ module _ (chip : Chip) (t path : List ℕ) (m : ℕ) where
   has-free-over s h = has-set-over (free chip t path m) (chip .wheel .n) 0 s h
 
   pub free-below : Below (chip .wheel .n) (freeSlots chip t path m)
-  free-below = record { below = λ s e. go s e (le-or-lt (chip .wheel .n) s) }
-    where
-      go : (s : ℕ) → has (freeSlots chip t path m) s ≡ true → (chip .wheel .n ≤ s) ⊎ (s < chip .wheel .n) → s < chip .wheel .n
-      go s e (inl l) = absurd (not-both e (has-free-over s l))
-      go s e (inr l) = l
+  unfolding freeSlots
+  free-below = set-below (free chip t path m) 0 (chip .wheel .n)
 
   -- slots among the free ones claim only cells that are 0
   pub chosen-free : (x c j : ℕ) → Within (freeSlots chip t path m) x → claims chip path m x c j ≡ true → cell t c j ≡ 0

@@ -7,7 +7,7 @@ use mathlib.Core.Bool.{Bool, true, false, _&&_, cond}
 use mathlib.Core.List.{List}
 use Prim.Native.Nat.{ℕ, _+_, _*_, _≤_, _<_}
 use native.Mathlib.Omega.{arith}
-use native.Mathlib.Nat.{mul-comm, one-mul}
+use native.Mathlib.Nat.{le-trans, mul-comm, mul-le-mul, one-mul}
 use lib.ListN.{getD, length}
 use lib.Dec.{eqb}
 use borrow.Author.Tests.{eq-eqb, ne-eqb, eqb-true}
@@ -15,7 +15,7 @@ use Rattle.rules.specs.declared.State.{State}
 use Rattle.rules.specs.declared.State.the-variants.{Closed, Open}
 use Rattle.rules.specs.declared.Record.{Record}
 use Rattle.rules.specs.Sets.{has, any, sum}
-use Rattle.rules.specs.Wheels.{Legal, size}
+use Rattle.rules.specs.Wheels.{Legal, chosen, size}
 use Rattle.rules.specs.Paths.{Chip, cell, seen, reached, claims, Inside, Once}
 use Rattle.rules.specs.Flows.{flow, claiming, Own, takes, Agree, freeCells, cellsOf, heldCells}
 use Rattle.rules.specs.Orders.{Tabled}
@@ -35,6 +35,22 @@ unfoldable pub usedCells : List ℕ → ℕ
 usedCells t = sum (λ i. used (getD t i 0)) 0 (length t)
 
 -- ---- the cells of one record
+
+pub size-most : (N x : ℕ) → size N x ≤ N
+unfolding size
+size-most N x = omega (arith, sum-le (λ i. bit (chosen N x i)) (λ i. 1) N (λ i h. one (chosen N x i)), sum-const 1 N, one-mul N)
+  where
+    one : (b : Bool) → bit b ≤ 1
+    one true = omega arith
+    one false = omega arith
+
+pub cells-most : (chip : Chip) (r : Record) → chip .wheel .n ≤ 64 → r .len ≤ 16 → cellsOf chip r ≤ 1024
+unfolding cellsOf
+cells-most chip r n64 fits = go (claiming (r .state))
+  where
+    go : (b : Bool) → cond b (size (chip .wheel .n) (r .slots) * r .len) 0 ≤ 1024
+    go true = mul-le-mul (le-trans (size-most (chip .wheel .n) (r .slots)) n64) fits
+    go false = omega arith
 
 module _ (chip : Chip) (legal : Legal (chip .wheel)) where
   abbrev N : ℕ

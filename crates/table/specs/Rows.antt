@@ -71,9 +71,9 @@ unfolding later
 later-below n k s n1 = mod-lt _ n1
 
 -- position i of a path is i slots later
-pub shift-is : (chip : Chip) (path : List ℕ) (i : ℕ) → i ≡ shift chip path i
+pub shift-turned : (chip : Chip) (path : List ℕ) (i : ℕ) → i % chip .wheel .n ≡ shift chip path i % chip .wheel .n
 unfolding shift
-shift-is chip path i = refl
+shift-turned chip path i = refl
 
 -- the leaves are told the shift of position i as k, turned round the wheel
 module _ (chip : Chip) (path : List ℕ) (i k : ℕ) (turned : k ≡ shift chip path i % chip .wheel .n) where

@@ -8,16 +8,12 @@ use native.Mathlib.Nat.{zero-add}
 use lib.Pow.{shr-shr, pow-mono}
 use lib.Dec.{eqb}
 use Rattle.rules.specs.Sets.{has, all, setOf}
-use Rattle.laws.specs.Logic.{not-both, le-or-lt}
+use Rattle.laws.specs.Logic.{le-or-lt}
 use Rattle.laws.specs.Search.{all-each}
-use Rattle.laws.specs.Sets.{has-set, has-set-over, same-set, below-of, below-not, below-shift, below-small}
+use Rattle.laws.specs.Sets.{has-set, has-set-over, same-set, set-below, below-of, below-not, below-shift, below-small}
 
 set-small : (f : ℕ → Bool) (i m : ℕ) → setOf f i m < 2 ^ m
-set-small f i m = below-small _ m (below-shift _ m (record { below = λ s e. go s e (le-or-lt m s) }))
-  where
-    go : (s : ℕ) → has (setOf f i m) s ≡ true → (m ≤ s) ⊎ (s < m) → s < m
-    go s e (inl l) = absurd (not-both e (has-set-over f m i s l))
-    go s e (inr l) = l
+set-small f i m = below-small _ m (below-shift _ m (set-below f i m))
 
 pub set-same : (f g : ℕ → Bool) (m : ℕ) → ((s : ℕ) → s < m → f s ≡ g s) → setOf f 0 m ≡ setOf g 0 m
 set-same f g m same = same-set _ _ λ s. go s (le-or-lt m s)

@@ -70,12 +70,15 @@ fn seen(s: PathSlot, n: usize, k: usize) -> ChannelSlot
     }
 }
 
+// The set of 64 slots.
+const ALL: u64 = 0xffff_ffff_ffff_ffff;
+
 // The set of all slots of the wheel.
 fn all_slots(w: Wheel) -> u64
     requires { ⌜ Legal w ⌝ }
     ensures { λ r. ⌜ r ≡ setOf (λ _. true) 0 (w .n) ⌝ }
 {
-    18446744073709551615 >> (64 - w.n)
+    ALL >> (64 - w.n)
 }
 
 // Whether slot s is in x and its cell in the row is free, the flow being k slots later there.

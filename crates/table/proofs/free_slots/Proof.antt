@@ -1,12 +1,12 @@
 -- After i positions x has the slots that are free as far as position i.
-use mathlib.Core.Path.{_≡_, ap, _∙_}
-use Prim.Native.Nat.{_-_, _%_, _≤_}
+use mathlib.Core.Path.{_≡_, _∙_}
+use Prim.Native.Nat.{_-_, _≤_}
 use native.Mathlib.Omega.{arith}
 use native.Mathlib.Nat.{mod-lt}
 use lib.ListN.{length-take, length-drop}
 use Rattle.rules.specs.Sets.{setOf}
 use Rattle.rules.specs.Paths.{chipOf, free}
-use Rattle.table.specs.Rows.{row-room, lent-row, shift-is, free-start, free-turn, free-end}
+use Rattle.table.specs.Rows.{row-room, lent-row, shift-turned, free-start, free-turn, free-end}
 use Rattle.table.proofs.free_slots.Statement.{statement}
 use Rattle.table.proofs.free_slots.Tie as tie
 
@@ -73,7 +73,7 @@ loop-again c =
     let wd = c .before .before .before .wide in (
       omega arith,
       c .still-free .ensures
-          ∙ free-turn chip t (st .args .t3) _ (at .i) _ (at .x) (st .pre .0 .n1) (ap (λ k. k % st .args .w .n) (shift-is chip (st .args .t3) (at .i))) (at .inv .1)
+          ∙ free-turn chip t (st .args .t3) _ (at .i) _ (at .x) (st .pre .0 .n1) (shift-turned chip (st .args .t3) (at .i)) (at .inv .1)
           (λ j h. lent-row t (wd .result) _ j (wd .ensures) (omega (arith, st .pre .0 .n64))),
     )
 

@@ -1,7 +1,7 @@
 -- The rows of the positions below i hold v where the slots reach them.
-use mathlib.Core.Path.{_≡_, sym, ap, _∙_}
+use mathlib.Core.Path.{_≡_, sym, _∙_}
 use mathlib.Core.Bool.{true}
-use Prim.Native.Nat.{ℕ, _-_, _%_, _≤_, _<_}
+use Prim.Native.Nat.{ℕ, _-_, _≤_, _<_}
 use native.Mathlib.Omega.{arith}
 use native.Mathlib.Nat.{mod-lt}
 use lib.ListN.{getD, length-take, length-drop}
@@ -10,7 +10,7 @@ use borrow.Author.Count.{below-more}
 use Rattle.rules.specs.Sets.{has}
 use Rattle.rules.specs.Paths.{chipOf, cell, seen}
 use Rattle.laws.specs.Logic.{tells-yes, tells-no}
-use Rattle.table.specs.Rows.{row-room, shift-is, rows-hold, hold-rows, seen-lent}
+use Rattle.table.specs.Rows.{row-room, shift-turned, rows-hold, hold-rows, seen-lent}
 use Rattle.table.proofs.holds.Statement.{statement}
 use Rattle.table.proofs.holds.Tie as tie
 
@@ -65,7 +65,7 @@ returns c =
     let wd = c .before .before .before .before .wide in
     let a = st .args in
     let chip = chipOf (a .w) (a .table .now) in
-    let turned = ap (λ k. k % a .w .n) (shift-is chip (a .t3) (at .i)) in
+    let turned = shift-turned chip (a .t3) (at .i) in
     tells-no
     (λ f.
     c .before .row-holds .ensures .no (not-true _ (c .if1 .taken))
@@ -88,7 +88,7 @@ loop-again c =
     let wd = c .before .before .before .before .wide in
     let a = st .args in
     let chip = chipOf (a .w) (a .table .now) in
-    let turned = ap (λ k. k % a .w .n) (shift-is chip (a .t3) (at .i)) in
+    let turned = shift-turned chip (a .t3) (at .i) in
     let here = c .before .row-holds .ensures .yes (not-false _ (c .if1 .left)) in (
       omega arith,
       below-more _ _ (at .inv .1)

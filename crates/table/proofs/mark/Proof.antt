@@ -1,12 +1,12 @@
 -- After i positions the cells that the path claims as far as position i hold v, and all others are as before.
-use mathlib.Core.Path.{_≡_, ap, _∙_}
-use Prim.Native.Nat.{_+_, _-_, _*_, _%_, _≤_}
+use mathlib.Core.Path.{_≡_, _∙_}
+use Prim.Native.Nat.{_+_, _-_, _*_, _≤_}
 use native.Mathlib.Omega.{arith}
 use native.Mathlib.Nat.{mod-lt}
 use lib.ListN.{length, getD, length-take, length-drop}
 use Rattle.rules.specs.Paths.{chipOf, Stamped}
 use Rattle.ledger.specs.Stamps.{stamp-none}
-use Rattle.table.specs.Rows.{row-room, shift-is, mark-turn}
+use Rattle.table.specs.Rows.{row-room, shift-turned, mark-turn}
 use Rattle.table.proofs.mark.Statement.{statement}
 use Rattle.table.proofs.mark.Tie as tie
 
@@ -69,7 +69,7 @@ loop-again c =
     let room : 64 * getD (st .args .t3) (at .i) 0 + 64 ≤ length (at .table) = omega (arith, at .inv .1 .long, row-room (st .pre .1) (at .i) (omega arith)) in (
       omega arith,
       mark-turn chip (st .args .t3) (st .args .x) (st .args .v) (st .args .table .now) (at .table) (at .i) _
-          (mr .last .0) (wd .result) (ap (λ k. k % st .args .w .n) (shift-is chip (st .args .t3) (at .i))) (at .inv .1) (wd .ensures) room (mr .kept .0 ∙ simp (length-take, length-drop) (omega (arith, wd .ensures))) (mr .ensures),
+          (mr .last .0) (wd .result) (shift-turned chip (st .args .t3) (at .i)) (at .inv .1) (wd .ensures) room (mr .kept .0 ∙ simp (length-take, length-drop) (omega (arith, wd .ensures))) (mr .ensures),
     )
 
 same-length : tie.Need-same-length Inv-loop μ-loop
