@@ -52,17 +52,13 @@ pub fn step(table: &[u8], w: Wheel, known: Checked, r: Record, f: usize) -> Chec
     if !flows::own(w, channels, r) {
         return Checked { ok: false, held: 0 };
     }
-    let s = r.state;
-    if !flows::claims_cells(s) {
-        return known;
-    }
     let path = r.path;
     let len = r.len;
     let v = (f + 1) as u8;
     if !table::holds(table, w, path, len, r.slots, v) {
         return Checked { ok: false, held: 0 };
     }
-    let cells = measure::size(w, r.slots) * len;
+    let cells = flows::cells_of(w, r);
     Checked {
         ok: true,
         held: known.held + cells,

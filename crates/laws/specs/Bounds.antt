@@ -7,9 +7,9 @@ use Prim.Native.Nat.{ℕ, zero, suc, _+_, _-_, _*_, _≤_, _<_}
 use native.Mathlib.Omega.{arith}
 use native.Mathlib.Nat.{div-eq-of-lt, div-le-of-le-mul, mul-le-mul, mul-le-mul-right, mul-suc, suc-mul, one-mul}
 use Rattle.rules.specs.declared.Wheel.{Wheel}
-use Rattle.rules.specs.Wheels.{Legal, chosen, size, full, ceil, runWords, words}
-use Rattle.laws.specs.Reading.{flags, count, gain, next, lineWords}
-use Rattle.laws.specs.Runs.{size-read, cut, words-read, full-words}
+use Rattle.rules.specs.Wheels.{Legal, chosen, full, ceil, runWords, words}
+use Rattle.laws.specs.Reading.{flags, gain, next, lineWords}
+use Rattle.laws.specs.Runs.{cut, words-read, full-words}
 
 -- ---- a run
 
@@ -58,17 +58,3 @@ words-most w legal x = go (full (w .n) x) refl
 
 pub words-small : (w : Wheel) → Legal w → (x : ℕ) → words w x ≤ 4096
 words-small w legal x = omega (arith, words-most w legal x, run-most w legal (w .n) (legal .n64))
-
--- ---- a size
-
-count-most : (f : ℕ → Bool) (m i : ℕ) → count (flags f i m) ≤ m
-unfolding flags count
-count-most f zero i = omega arith
-count-most f (suc m) i = go (f i) (count-most f m (suc i))
-  where
-    go : (b : Bool) → count (flags f (suc i) m) ≤ m → count (b ∷ flags f (suc i) m) ≤ suc m
-    go true h = omega arith
-    go false h = omega arith
-
-pub size-most : (N x : ℕ) → size N x ≤ N
-size-most N x = omega (arith, size-read N x 0, count-most (chosen N x) N 0)

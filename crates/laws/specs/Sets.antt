@@ -9,7 +9,7 @@ use native.Mathlib.Numerals.{one-add}
 use lib.Pow.{shr-shr, pow-mono, pow-pos}
 use lib.Dec.{eqb}
 use Rattle.rules.specs.Sets.{has, setOf, Below, Within}
-use Rattle.laws.specs.Logic.{le-or-lt, not-true-false}
+use Rattle.laws.specs.Logic.{le-or-lt, not-both, not-true-false}
 
 pub has-zero : (x : ℕ) → has x 0 ≡ eqb (x % 2) 1
 unfolding has
