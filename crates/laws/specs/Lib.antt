@@ -8,3 +8,5 @@ pub mod Runs
 pub mod Gaps
 pub mod Whole
 pub mod Bounds
+pub mod Order
+pub mod Answers
