@@ -200,6 +200,14 @@ pub record Solved (t : Task) (s K : ℕ) (hd tl : List ℕ) : Type 0 where
   pub heads : Heads t s K 0 hd
   pub tails : Tails t s K 0 tl
 
+-- also for fewer slots
+pub solved-fewer : (t : Task) (s K k : ℕ) (hd tl : List ℕ) → k ≤ K → Solved t s K hd tl → Solved t s k hd tl
+solved-fewer t s K k hd tl h z =
+    record {
+      heads = record { at = λ p j a b c. z .heads .at p j a b (omega arith) };
+      tails = record { at = λ e j a b c. z .tails .at e j a b (omega arith) };
+    }
+
 pub ready-none : (t : Task) (s K : ℕ) (hd tl : List ℕ) → 1 ≤ N t → Ready t s K (N t - 1) 0 hd tl
 ready-none t s K hd tl h =
     record {

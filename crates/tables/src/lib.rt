@@ -57,6 +57,23 @@ pub fn opens(task: Task, start: PathSlot, d: usize) -> bool
     }
 }
 
+// How many slots are open from position p on.
+pub fn free_run(task: Task, start: PathSlot, p: usize) -> usize
+    requires { ⌜ Sound task ⌝ }
+    requires { ⌜ (start .0 < task .wheel .n) × (p < task .wheel .n) ⌝ }
+    ensures { λ f. ⌜ (p + f < task .wheel .n) × FreeRun task (start .0) p f ⌝ }
+{
+    let n = task.wheel.n;
+    let mut f = 0;
+    while p + f + 1 < n {
+        if !opens(task, start, p + f) {
+            return f;
+        }
+        f += 1;
+    }
+    f
+}
+
 // The best head of k slots at the positions from `from` to before `end`.
 fn window(heads: &[u16], k: usize, from: usize, end: usize) -> u16
     requires { do ⌜ (k < 64) × (end ≤ 64) × ((← ⟦heads.len()⟧) ≡ 4096) ⌝ }

@@ -3,6 +3,7 @@ use mathlib.Core.Path.{_≡_, _∙_, subst}
 use Prim.Native.Nat.{_+_, _-_, _≤_, _<_}
 use native.Mathlib.Omega.{arith}
 use lib.ListN.{length}
+use borrow.Author.Needs.{needs}
 use Rattle.line.specs.Rows.{Ready, ready-none, ready-held, ready-room, ready-more}
 use Rattle.tables.proofs.fill.Statement.{statement}
 use Rattle.tables.proofs.fill.Tie as tie
@@ -26,7 +27,7 @@ opens-requires : tie.Need-opens-requires Inv-loop μ-loop
 opens-requires c κs = (c .before .before .before .before .before .pre .0, omega (arith, c .before .before .before .before .before .pre .0 .legal .n1))
 
 grown-requires : tie.Need-grown-requires Inv-loop μ-loop
-grown-requires c κs = ?
+grown-requires c κs = search needs
 
 tail-row-requires : tie.Need-tail-row-requires Inv-loop μ-loop
 tail-row-requires c κs = (c .before .before .before .before .before .before .before .before .before .pre .0, omega (arith, c .before .before .before .before .before .before .before .before .before .pre .0 .legal .n1))
