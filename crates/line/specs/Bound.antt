@@ -5,9 +5,9 @@ use mathlib.Core.Path.{_≡_, refl, sym, ap, _∙_}
 use mathlib.Core.Bool.{Bool, true, false, cond}
 use mathlib.Core.List.{List, [], _∷_}
 use mathlib.Core.Logic.{_⊎_, inl, inr}
-use Prim.Native.Nat.{ℕ, zero, suc, pred, _+_, _-_, _*_, _≤_, _<_, min}
+use Prim.Native.Nat.{ℕ, zero, suc, pred, _+_, _-_, _*_, _/_, _≤_, _<_, min}
 use native.Mathlib.Omega.{arith}
-use native.Mathlib.Nat.{mod-lt, mul-le-mul-right}
+use native.Mathlib.Nat.{mod-lt, mul-le-mul-right, div-lt-iff-lt-mul}
 use lib.ListN.{length}
 use Rattle.rules.specs.Sets.{stretch}
 use Rattle.laws.specs.Counting.{stretch-stops}
@@ -186,3 +186,10 @@ pub most-left : (t : Task) (f k c : ℕ) → ((d : ℕ) → k + (P t - f) ≤ d 
 most-left t f k c h v z =
     let m : c * H t ≤ z .c * H t = mul-le-mul-right (H t) (h (z .c) (z .slots) (z .gaps)) in
     omega (arith, z .words)
+
+-- a / b, rounded up, is the least c with a ≤ c * b
+pub ceil-least : (a b : ℕ) → 1 ≤ b → (c : ℕ) → a ≤ c * b → (a + b - 1) / b ≤ c
+ceil-least a b h c e =
+    let q : a + b - 1 < suc c * b = omega arith in
+    let r = div-lt-iff-lt-mul {k = b} {x = a + b - 1} {y = suc c} h .1 q in
+    omega arith

@@ -6,9 +6,8 @@ use mathlib.Core.List.{List}
 use mathlib.Core.Logic.{_⊎_, inl, inr, ⊎-elim}
 use Prim.Native.Nat.{ℕ, zero, suc, _+_, _-_, _*_, _≤_, _<_, min}
 use native.Mathlib.Omega.{arith}
-use native.Mathlib.Numerals.{add-one}
 use lib.ListN.{getD}
-use Rattle.laws.specs.Logic.{le-or-lt}
+use borrow.Author.Count.{below-more}
 use Rattle.line.specs.declared.Task.{Task}
 use Rattle.line.specs.Values.{N, P}
 use Rattle.line.specs.Packets.{opens, head, head-shut, head-zero}
@@ -40,15 +39,6 @@ sofar-none t b c v = record { fewest = λ j u h l. absurd (omega arith); found =
 pub sofar-range : {t : Task} {u : ℕ} {b : Found} → Sofar t u b → b .count ≤ N t
 sofar-range z = ⊎-elim (λ e. omega arith) (λ f. omega (arith, f .few)) (z .found)
 
-below-more : (A : ℕ → Type 0) (u : ℕ) → ((v : ℕ) → v < u → A v) → A u → (v : ℕ) → v < suc u → A v
-below-more A u f a v l = go (le-or-lt u v)
-  where
-    go : (u ≤ v) ⊎ (v < u) → A v
-    go (inl e) =
-        let c : v ≡ u = omega arith in
-        rw c a
-    go (inr e) = f v e
-
 -- ---- bounds
 
 -- fewer than k slots do not deliver the words, where the first packet has at most f
@@ -59,7 +49,10 @@ pub short-none : (t : Task) (f : ℕ) → Short t f 0
 short-none t f = record { less = λ j h. absurd (omega arith) }
 
 pub short-more : (t : Task) (f k : ℕ) → Short t f k → ((v : ℕ) → Paid t f k v → v < t .words .0) → Short t f (k + 1)
-short-more t f k z h = record { less = λ j l. below-more (λ j. (v : ℕ) → Paid t f j v → v < t .words .0) k (z .less) h j (rw (add-one k) at l) }
+short-more t f k z h = record { less = λ j l. below-more (λ j. (v : ℕ) → Paid t f j v → v < t .words .0) k (z .less) h j l }
+
+pub short-fewer : (t : Task) (f k j : ℕ) → j ≤ k → Short t f k → Short t f j
+short-fewer t f k j h z = record { less = λ i l. z .less i (omega arith) }
 
 pub short-run : (t : Task) → Sound t → (f k : ℕ) → Short t (P t) k → Short t f k
 short-run t good f k z = record { less = λ j h v p. z .less j h v (paid-more t good (omega arith) p) }
@@ -75,13 +68,12 @@ module _ (t : Task) (good : Sound t) (u : ℕ) (b : Found) (z : Sofar t u b) whe
   -- the start u brings nothing better
   sofar-same : ((j : ℕ) → j < b .count → head t u 0 j ≤ t .words .0) → (b .count < N t → head t u 0 (b .count) ≤ b .value) → Sofar t (u + 1) b
   sofar-same low top =
-      rw (add-one u)
-      (record {
+      record {
         fewest = λ j v h l. below-more (λ v. head t v 0 j ≤ t .words .0) u (λ v m. z .fewest j v h m) (low j h) v l;
         found = go (z .found);
-      })
+      }
     where
-      go : ((b .count ≡ N t) × (b .value ≡ 0)) ⊎ Holds t u b → ((b .count ≡ N t) × (b .value ≡ 0)) ⊎ Holds t (suc u) b
+      go : ((b .count ≡ N t) × (b .value ≡ 0)) ⊎ Holds t u b → ((b .count ≡ N t) × (b .value ≡ 0)) ⊎ Holds t (u + 1) b
       go (inl e) = inl e
       go (inr f) =
           inr (record {
@@ -174,8 +166,7 @@ module _ (t : Task) (good : Sound t) (u : ℕ) (b : Found) (z : Sofar t u b) whe
     pub start-new : (new : Found) → k ≤ cap → t .words .0 < getD hd k 0 → (k < b .count) ⊎ ((k ≡ b .count) × (b .value < getD hd k 0))
         → new .count ≡ k → new .value ≡ getD hd k 0 → new .start .0 ≡ u → new .slots ≡ greedySet t u k → Sofar t (u + 1) new
     start-new new h w better ek ev es ex =
-        rw (add-one u)
-        (record {
+        record {
           fewest = λ j v l m.
               below-more (λ v. head t v 0 j ≤ t .words .0) u (λ v n. z .fewest j v (omega (arith, le better)) n)
               (omega (arith, row j (omega arith), low j (omega arith))) v m;
@@ -189,7 +180,7 @@ module _ (t : Task) (good : Sound t) (u : ℕ) (b : Found) (z : Sofar t u b) whe
             first = λ v m. less better v (omega arith);
             set = rw (es, ek) ex;
           });
-        })
+        }
       where
         le : (k < b .count) ⊎ ((k ≡ b .count) × (b .value < getD hd k 0)) → k ≤ b .count
         le (inl a) = omega arith

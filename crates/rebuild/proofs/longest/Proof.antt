@@ -67,11 +67,10 @@ loop-again : tie.Need-loop-again Inv-loop μ-loop
 loop-again c =
     let a = c .before .before .before .before .before .before .before .args in
     let at = c .before .before .before .before .before .loop in
-    let e = ap (λ w. raised w (entry (now (a .tails)) (a .p + at .q - 1) (a .k - at .q))) (c .before .before .before .packet-words .ensures) in
-    (
+    let e = ap (λ w. raised w (entry (now (a .tails)) (a .p + at .q - 1) (a .k - at .q))) (c .before .before .before .packet-words .ensures) in (
       omega arith,
       above-more (λ j. raised (packetWords (a .task) j) (entry (now (a .tails)) (a .p + j - 1) (a .k - j)) ≡ a .v → ⊥) (at .q) (a .m) (omega arith)
-      (λ z. c .if1 .left (c .before .raised .ensures ∙ e ∙ z)) (at .inv .1),
+          (λ z. c .if1 .left (c .before .raised .ensures ∙ e ∙ z)) (at .inv .1),
     )
 
 returns-2 : tie.Need-returns-2 Inv-loop μ-loop

@@ -56,10 +56,15 @@ shared-slice-read-v c = omega (arith, c .before .before .before .before .pre .0 
 
 goes-on-requires : tie.Need-goes-on-requires
 goes-on-requires c κs =
-    let a = c .before .before .before .before .args in
-    (c .before .before .before .before .pre .0, ((omega (arith, c .before .before .before .before .pre .0 .legal .n64), omega arith, omega arith), λ x y.
-    heads-small (a .task) (c .before .before .before .before .pre .0) (a .start .0) (a .at .k) (now (a .heads)) (now (a .tails)) (c .before .before .before .before .pre .1 .1 .0) (omega arith) (a .at .p + P (a .task)) (a .at .k - P (a .task))
-    (omega (arith, c .before .before .before .before .pre .0 .legal .p1)) (omega arith)))
+    let a = c .before .before .before .before .args in (
+      c .before .before .before .before .pre .0,
+      (
+        (omega (arith, c .before .before .before .before .pre .0 .legal .n64), omega arith, omega arith),
+        λ x y.
+            heads-small (a .task) (c .before .before .before .before .pre .0) (a .start .0) (a .at .k) (now (a .heads)) (now (a .tails)) (c .before .before .before .before .pre .1 .1 .0) (omega arith) (a .at .p + P (a .task)) (a .at .k - P (a .task))
+            (omega (arith, c .before .before .before .before .pre .0 .legal .p1)) (omega arith),
+      ),
+    )
 
 add-run-requires : tie.Need-add-run-requires
 add-run-requires c κs =
@@ -85,9 +90,14 @@ smaller-requires-2 c κs = search needs
 
 longest-requires : tie.Need-longest-requires
 longest-requires c κs =
-    let a = c .before .before .before .before .before .before .before .before .args in
-    (c .before .before .before .before .before .before .before .before .pre .0, (omega (arith, c .before .before .before .before .before .before .before .before .pre .0 .legal .n64), tails-small (a .task) (c .before .before .before .before .before .before .before .before .pre .0) (a .start .0) (a .at .k) (now (a .heads)) (now (a .tails)) (c .before .before .before .before .before .before .before .before .pre .1 .1 .0) (omega arith) (a .at .p) (a .at .k) (c .smaller2 .result)
-    (omega arith) (omega arith) (omega arith)))
+    let a = c .before .before .before .before .before .before .before .before .args in (
+      c .before .before .before .before .before .before .before .before .pre .0,
+      (
+        omega (arith, c .before .before .before .before .before .before .before .before .pre .0 .legal .n64),
+        tails-small (a .task) (c .before .before .before .before .before .before .before .before .pre .0) (a .start .0) (a .at .k) (now (a .heads)) (now (a .tails)) (c .before .before .before .before .before .before .before .before .pre .1 .1 .0) (omega arith) (a .at .p) (a .at .k) (c .smaller2 .result)
+            (omega arith) (omega arith) (omega arith),
+      ),
+    )
 
 add-run-requires-2 : tie.Need-add-run-requires-2
 add-run-requires-2 c κs =
