@@ -291,8 +291,7 @@ fn all_words(
         words += 1;
     }
     let a = all_limits(sum, words_of, gap_of, rank_of, w, free, most, last);
-    let more = std::num::wrapping_add_u16(most, 1);
-    all_limits(a, words_of, gap_of, rank_of, w, free, more, last)
+    all_limits(a, words_of, gap_of, rank_of, w, free, next(most), last)
 }
 
 // Every set of free slots below `end`, which is 2 to the N.
@@ -314,8 +313,21 @@ fn all_free(
     sum
 }
 
-// Every selection on one wheel, of at most ten slots.
-fn all_selections(t: Tally, w: Wheel, end: u64, last: u16) -> Tally {
+// How many sets a wheel of at most ten slots has; none are said of a larger one.
+fn sets(n: u64) -> u64 {
+    if 10 < n {
+        return 0;
+    }
+    1 << n
+}
+
+// One more.
+fn next(v: u16) -> u16 {
+    std::num::wrapping_add_u16(v, 1)
+}
+
+// Every selection on a wheel of at most ten slots.
+fn all_selections(t: Tally, w: Wheel) -> Tally {
     let n = long(w.n);
     let s = wide(w.s.0);
     let h = wide(w.h.0);
@@ -326,19 +338,16 @@ fn all_selections(t: Tally, w: Wheel, end: u64, last: u16) -> Tally {
     apart::list_words(&mut words_of, n, s, h, p);
     apart::list_gaps(&mut gap_of, n);
     apart::list_ranks(&mut rank_of, n, s, h, p);
-    all_free(t, &words_of, &gap_of, &rank_of, w, end, last)
+    let last = next(short(n));
+    all_free(t, &words_of, &gap_of, &rank_of, w, sets(n), last)
 }
 
 // Every selection on the wheels of 1 to 10 slots with these values.
 fn all_wheels(s: u16, h: u16, p: usize) -> Tally {
     let mut sum = none();
-    let mut end = 1;
-    let mut last = 1;
     let mut n = 1;
     while n <= 10 {
-        end = 2 * end;
-        last += 1;
-        sum = all_selections(sum, wheel(n, s, h, p), end, last);
+        sum = all_selections(sum, wheel(n, s, h, p));
         n += 1;
     }
     sum
