@@ -23,7 +23,7 @@ static void select_call(void)
 static size_t used(void (*call)(void))
 {
     uint8_t *room = mmap(0, ROOM, PROT_READ | PROT_WRITE, MAP_PRIVATE | MAP_ANONYMOUS, -1, 0);
-    size_t most = 0;
+    volatile size_t most = 0; // it outlives the change of stacks
     for (int pass = 0; pass < 2; pass++) {
         uint8_t paint = pass ? 0x5a : 0xa5;
         memset(room, paint, ROOM);
