@@ -21,13 +21,14 @@ use Rattle.rules.specs.Flows.{flow, claiming, heldCells}
 use Rattle.rules.specs.Numbers.{number, Line, Passes}
 use Rattle.rules.specs.Orders.{checked, openOrder, closeOrder}
 use Rattle.rules.specs.Promises.{Opens, Closes, Reports}
-use Rattle.laws.specs.Logic.{not-true-false, not-false-true, le-or-lt}
+use Rattle.laws.specs.Logic.{not-true-false, le-or-lt}
 use Rattle.laws.specs.Refusals.{Alike, alike-line, alike-given, alike-self, refuses-alike, passes-alike}
 use Rattle.ledger.specs.Totals.{free-and-held}
 use Rattle.agree.specs.Checks.{Agrees}
 use Rattle.core.specs.declared.Opening.{Opening}
 use Rattle.core.specs.declared.Closing.{Closing}
-use Rattle.core.specs.Pieces.{checkedLines, openLines, closeLines, DecidesOpen, WritesOpen, OpensOne, DecidesClose, WritesClose, ClosesOne, ReportsOne}
+use Rattle.core.specs.Gate.{passed-behind, path-passes, flow-passes}
+use Rattle.core.specs.Pieces.{checkedLines, openLines, closeLines, DecidesPath, DecidesFlow, DecidesOpen, WritesOpen, OpensOne, DecidesClose, WritesClose, ClosesOne, ReportsOne}
 
 module _ (chip : Chip) (t : List ℕ) (n : ℕ) (list : List Record) (agreed : Bool) (tells : Tells agreed (Agrees chip t n list)) where
   -- ---- the orders
@@ -76,35 +77,45 @@ module _ (chip : Chip) (t : List ℕ) (n : ℕ) (list : List Record) (agreed : B
     -- ---- the calls
 
     pub opens-joined : (path : List ℕ) (m : ℕ) (d : Demand) (t′ : List ℕ) (list′ : List Record) (o : Opening)
-        → OpensOne chip t n agreed (r .state) path m f d t′ o → list′ ≡ cond (o .go) (set list (o .at) (o .record)) list
+        → OpensOne chip t n agreed (r .state) path m f d t′ o → list′ ≡ cond (o .go) (set list (o .at) (o .new)) list
         → Opens chip t n list path m f d t′ list′ (o .answer)
-    unfolding Opens DecidesOpen WritesOpen
+    unfolding Opens DecidesOpen DecidesPath WritesOpen
     opens-joined path m d t′ list′ o p e = go (o .answer) (p .decides) (p .writes)
       where
         go : (a : Opened) → DecidesOpen chip t n agreed (r .state) path m f d a → WritesOpen chip t n agreed path m f d t′ a o
             → Opens chip t n list path m f d t′ list′ a
-        go (opened.Granted g) p w =
-            (passes-alike _ _ (open-alike path m d) (p .0), p .1, w .3, e ∙ rw (w .0, w .1, w .2))
+        go (opened.Granted g) p w = (
+          passes-alike _ _ (open-alike path m d) (passed-behind chip t n agreed (p .0) (p .1) _ (path-passes chip t n (r .state) path m f d g (p .2 .0) (p .2 .1))),
+          p .2 .1,
+          w .3,
+          e ∙ rw (w .0, w .1, w .2),
+        )
         go (opened.Refused q) p w = (refuses-alike _ _ (number q) (open-alike path m d) p, w .1, e ∙ rw (w .0))
 
     pub closes-joined : (t′ : List ℕ) (list′ : List Record) (o : Closing)
-        → ClosesOne chip t n agreed r f t′ o → list′ ≡ cond (o .go) (set list (o .at) (o .record)) list
+        → ClosesOne chip t n agreed r f t′ o → list′ ≡ cond (o .go) (set list (o .at) (o .new)) list
         → Closes chip t n list f t′ list′ (o .answer)
-    unfolding Closes DecidesClose WritesClose Passes
+    unfolding Closes DecidesClose DecidesFlow WritesClose
     closes-joined t′ list′ o p e = go (o .answer) (p .decides) (p .writes)
       where
         go : (a : Cleared) → DecidesClose chip t n agreed r f a → WritesClose chip t n agreed r f t′ a o → Closes chip t n list f t′ list′ a
         go (cleared.Cells k) p w =
-            let passes = passes-alike _ _ close-alike (p .0) in
-            let r-is = same-record (p .0 .1 .1 .1 .1 .0) in
-            (passes, rw (← r-is) (p .1), rw (← r-is) (w .3), e ∙ rw (w .0, w .1, w .2))
+            let (one, listed, open-now, cells) = p .2 in
+            let r-is = same one listed in (
+              passes-alike _ _ close-alike (passed-behind chip t n agreed (p .0) (p .1) _ (flow-passes chip t n r f one listed open-now)),
+              rw (← r-is) cells,
+              rw (← r-is) (w .3),
+              e ∙ rw (w .0, w .1, w .2),
+            )
         go (cleared.Refused q) p w = (refuses-alike _ _ (number q) close-alike p, w .1, e ∙ rw (w .0))
 
   pub reports-joined : (held : ℕ) (a : Reported) → (agreed ≡ true → held ≡ heldCells chip n list) → ReportsOne chip t n agreed held a → Reports chip t n list a
-  unfolding Reports ReportsOne Passes
+  unfolding Reports ReportsOne
   reports-joined held (reported.Counted c) h p =
-      let yes = not-false-true agreed (p .0 .1 .1 .1 .0) in
-      let a = tells .yes yes in
-      let all = free-and-held chip t n list (a .ready .legal) (a .agree) in
-      (passes-alike _ _ (checked-alike [] [] (alike-self [])) (p .0), omega (arith, p .2, h yes, all), p .1 ∙ h yes)
+      let a = tells .yes (p .1) in
+      let all = free-and-held chip t n list (a .ready .legal) (a .agree) in (
+        passes-alike _ _ (checked-alike [] [] (alike-self [])) (passed-behind chip t n agreed (p .0) (p .1) [] (unfold Passes in tt)),
+        omega (arith, p .3, h (p .1), all),
+        p .2 ∙ h (p .1),
+      )
   reports-joined held (reported.Refused q) h p = refuses-alike _ _ (number q) (checked-alike [] [] (alike-self [])) p

@@ -3,11 +3,12 @@
 // told of the rest whether it agrees with the table, so that it serves a list by value and a lent one.
 ghost use mathlib.Core.Path.{_≡_};
 ghost use mathlib.Core.Bool.{true};
-ghost use Prim.Native.Nat.{_-_, _≤_};
+ghost use Prim.Native.Nat.{ℕ, _-_, _≤_};
 ghost use Rattle.rules.specs.Wheels.{Legal};
 ghost use Rattle.rules.specs.Paths.{chipOf};
 ghost use Rattle.rules.specs.Flows.{Own};
 ghost use Rattle.rules.specs.Promises.{closedRecord};
+ghost use Rattle.flows.specs.Tests.{chipWith};
 ghost use Rattle.core.specs.Pieces.{Gates, DecidesFlow, DecidesClose, ClosesOne, ReportsOne};
 use rules::Cleared;
 use rules::Opened;
@@ -24,7 +25,7 @@ pub struct Opening {
     pub answer: Opened,
     pub go: bool,
     pub at: usize,
-    pub record: Record,
+    pub new: Record,
 }
 
 // What is to be done for a closing.
@@ -32,7 +33,7 @@ pub struct Closing {
     pub answer: Cleared,
     pub go: bool,
     pub at: usize,
-    pub record: Record,
+    pub new: Record,
 }
 
 // a - b, and 0 where b is more.
@@ -95,7 +96,7 @@ fn enter(table: &[u8], w: Wheel, n: usize, agreed: bool) -> Gate
 // Decides on closing `flow`, whose record is r, behind the gate.
 fn decide_flow(w: Wheel, n: usize, r: Record, flow: usize) -> Cleared
     requires { ⌜ Legal w × (r .len ≤ 16) ⌝ }
-    ensures { λ a. ⌜ DecidesFlow w n r flow a ⌝ }
+    ensures { λ a. ⌜ ((c : ℕ) → DecidesFlow (chipWith w c) n r flow a) ⌝ }
 {
     if flow < 1 {
         return Cleared::Refused(Refusal::NoFlow);
@@ -107,7 +108,7 @@ fn decide_flow(w: Wheel, n: usize, r: Record, flow: usize) -> Cleared
     if !flows::claims_cells(s) {
         return Cleared::Refused(Refusal::NotOpen);
     }
-    Cleared::Cells(measure::size(w, r.slots) * r.len)
+    Cleared::Cells(flows::cells_of(w, r))
 }
 
 // Decides on closing `flow`, whose record is r: how many cells will be cleared, or why not.
@@ -141,7 +142,7 @@ pub fn close_one(
             answer: a,
             go: false,
             at: 0,
-            record: none,
+            new: none,
         },
         Cleared::Cells(_) => {
             let path = r.path;
@@ -151,7 +152,7 @@ pub fn close_one(
                 answer: a,
                 go: true,
                 at: flow - 1,
-                record: none,
+                new: none,
             }
         }
     }
