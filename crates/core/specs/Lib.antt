@@ -1,3 +1,4 @@
 pub mod Pieces
 pub mod Gate
+pub mod Opening
 pub mod Joined

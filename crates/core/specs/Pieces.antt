@@ -8,6 +8,8 @@ use Prim.Native.Nat.{ℕ, _-_, _*_, _≤_, _<_}
 use Rattle.rules.specs.declared.Demand.{Demand}
 use Rattle.rules.specs.declared.State.{State}
 use Rattle.rules.specs.declared.Record.{Record}
+use Rattle.rules.specs.declared.Selected.{Selected}
+use Rattle.rules.specs.declared.Selected.the-variants as selected
 use Rattle.rules.specs.declared.Opened.{Opened}
 use Rattle.rules.specs.declared.Opened.the-variants as opened
 use Rattle.rules.specs.declared.Cleared.{Cleared}
@@ -26,6 +28,11 @@ use Rattle.core.specs.declared.Gate.{Gate}
 use Rattle.core.specs.declared.Gate.the-variants as gate
 use Rattle.core.specs.declared.Opening.{Opening}
 use Rattle.core.specs.declared.Closing.{Closing}
+
+-- the answer of bare selection as that of an opening
+abbrev pub openedBy : Selected → Opened
+openedBy (selected.Chosen g) = opened.Granted g
+openedBy (selected.Refused r) = opened.Refused r
 
 -- ---- behind the gate, where 1 to 4 are passed
 

@@ -7,14 +7,17 @@ ghost use Prim.Native.Nat.{ℕ, _-_, _≤_};
 ghost use Rattle.rules.specs.Wheels.{Legal};
 ghost use Rattle.rules.specs.Paths.{chipOf};
 ghost use Rattle.rules.specs.Flows.{Own};
-ghost use Rattle.rules.specs.Promises.{closedRecord};
+ghost use Rattle.rules.specs.Orders.{Tabled};
+ghost use Rattle.rules.specs.Promises.{openRecord, closedRecord};
 ghost use Rattle.flows.specs.Tests.{chipWith};
-ghost use Rattle.core.specs.Pieces.{Gates, DecidesFlow, DecidesClose, ClosesOne, ReportsOne};
+ghost use Rattle.core.specs.Pieces.{Gates, openedBy, DecidesPath, DecidesOpen, OpensOne, DecidesFlow, DecidesClose, ClosesOne, ReportsOne};
 use rules::Cleared;
+use rules::Demand;
 use rules::Opened;
 use rules::Record;
 use rules::Refusal;
 use rules::Reported;
+use rules::Selected;
 use rules::State;
 use rules::Totals;
 use rules::Wheel;
@@ -89,6 +92,136 @@ fn enter(table: &[u8], w: Wheel, n: usize, agreed: bool) -> Gate
         return Gate::Shut(Refusal::Disagree);
     }
     Gate::Through
+}
+
+// ---- opening
+
+// The answer of bare selection as that of an opening.
+fn opened_by(a: Selected) -> Opened
+    ensures { λ r. ⌜ r ≡ openedBy a ⌝ }
+{
+    match a {
+        Selected::Chosen(g) => Opened::Granted(g),
+        Selected::Refused(q) => Opened::Refused(q),
+    }
+}
+
+// Decides on opening `flow`, whose state is s, behind the gate: 5 to 9, 11, 12, and then selection
+// among the free slots of the path.
+fn decide_path(
+    table: &[u8],
+    w: Wheel,
+    n: usize,
+    s: State,
+    flow: usize,
+    path: [u16; 16],
+    len: usize,
+    demand: Demand,
+) -> Opened
+    requires { ⌜ Legal w × Tabled (chipOf w (now table)) (now table) ⌝ }
+    ensures { λ a. ⌜ DecidesPath (chipOf w (now (table .entry))) (now (table .entry)) n s path len flow demand a ⌝ }
+{
+    if len < 1 {
+        return Opened::Refused(Refusal::PathLength);
+    }
+    if 16 < len {
+        return Opened::Refused(Refusal::PathLength);
+    }
+    let channels = table.len() / 64;
+    if !flows::inside(path, len, channels) {
+        return Opened::Refused(Refusal::NoChannel);
+    }
+    if !flows::once(path, len) {
+        return Opened::Refused(Refusal::ChannelTwice);
+    }
+    if flow < 1 {
+        return Opened::Refused(Refusal::NoFlow);
+    }
+    if n < flow {
+        return Opened::Refused(Refusal::NoFlow);
+    }
+    if flows::claims_cells(s) {
+        return Opened::Refused(Refusal::AlreadyOpen);
+    }
+    if demand.words.0 < 1 {
+        return Opened::Refused(Refusal::NoWords);
+    }
+    let travel = len as u16;
+    if demand.deadline <= travel {
+        return Opened::Refused(Refusal::NoTime);
+    }
+    let free = table::free_slots(table, w, path, len);
+    opened_by(select::select(w, free, demand.words, demand.deadline - travel))
+}
+
+// Decides on opening `flow`, whose state is s: the chosen slots, or why not.
+fn decide_open(
+    table: &[u8],
+    w: Wheel,
+    n: usize,
+    agreed: bool,
+    s: State,
+    flow: usize,
+    path: [u16; 16],
+    len: usize,
+    demand: Demand,
+) -> Opened
+    ensures { λ a. ⌜ DecidesOpen (chipOf w (now (table .entry))) (now (table .entry)) n agreed s path len flow demand a ⌝ }
+{
+    let g = enter(table, w, n, agreed);
+    match g {
+        Gate::Shut(q) => Opened::Refused(q),
+        Gate::Through => decide_path(table, w, n, s, flow, path, len, demand),
+    }
+}
+
+// The record of a flow that was opened.
+fn open_record(path: [u16; 16], len: usize, slots: u64, demand: Demand) -> Record
+    ensures { λ r. ⌜ r ≡ openRecord path len slots demand ⌝ }
+{
+    let p = flows::trim(path, len);
+    let state = State::Open(demand);
+    Record {
+        state,
+        path: p,
+        len,
+        slots,
+    }
+}
+
+// Opens `flow`, whose state is s: decides, then writes the flow's number into its cells.
+pub fn open_one(
+    table: &mut [u8],
+    w: Wheel,
+    n: usize,
+    agreed: bool,
+    s: State,
+    flow: usize,
+    path: [u16; 16],
+    len: usize,
+    demand: Demand,
+) -> Opening
+    ensures { λ o. ⌜ OpensOne (chipOf w (now (table .entry))) (now (table .entry)) n agreed s path len flow demand (now (table .exit)) o ⌝ }
+{
+    let a = decide_open(table, w, n, agreed, s, flow, path, len, demand);
+    match a {
+        Opened::Refused(_) => Opening {
+            answer: a,
+            go: false,
+            at: 0,
+            new: closed_record(),
+        },
+        Opened::Granted(g) => {
+            let v = flow as u8;
+            table::mark(table, w, path, len, g.slots, v);
+            Opening {
+                answer: a,
+                go: true,
+                at: flow - 1,
+                new: open_record(path, len, g.slots, demand),
+            }
+        }
+    }
 }
 
 // ---- closing
