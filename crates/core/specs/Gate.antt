@@ -1,7 +1,7 @@
 -- Behind the gate: what is decided there is decided for the whole order.
 use mathlib.Core.Path.{_≡_, refl}
 use mathlib.Core.Bool.{Bool, true, false}
-use mathlib.Core.List.{List, [], _∷_}
+use mathlib.Core.List.{List, []}
 use mathlib.Core.Logic.{_⊎_, inl, inr}
 use Prim.Native.Nat.{ℕ, _-_, _≤_, _<_}
 use native.Mathlib.Omega.{arith}
@@ -21,7 +21,7 @@ use Rattle.rules.specs.Promises.{Grants, closedRecord}
 use Rattle.laws.specs.Logic.{not-both}
 use Rattle.ledger.specs.Calls.{Seen}
 use Rattle.agree.specs.Checks.{Ready}
-use Rattle.core.specs.Pieces.{checkedLines, pathLines, flowLines, DecidesPath, DecidesFlow, DecidesOpen, WritesOpen, OpensOne, DecidesClose, WritesClose, ClosesOne}
+use Rattle.core.specs.Pieces.{checkedLines, pathLines, flowLines, DecidesPath, DecidesFlow, DecidesOpen, DecidesClose, WritesClose, ClosesOne}
 
 -- a flow of the list is not refused by 8
 pub listed-flow : {f n : ℕ} → 1 ≤ f → f ≤ n → ¬ ((f ≡ 0) ⊎ (n < f))

@@ -19,7 +19,7 @@ use Rattle.rules.specs.declared.Reported.the-variants as reported
 use Rattle.rules.specs.Wheels.{Legal}
 use Rattle.rules.specs.Paths.{Chip, travel, allowed, freeSlots, Inside, Once, Stamped}
 use Rattle.rules.specs.Flows.{claiming, cellsOf}
-use Rattle.rules.specs.Numbers.{number, Line, line, Refuses, Passes}
+use Rattle.rules.specs.Numbers.{number, Line, line, Refuses}
 use Rattle.rules.specs.Orders.{Tabled, Listed, NoneDelivers, NoneMeets}
 use Rattle.rules.specs.Promises.{Grants, openRecord, closedRecord}
 use Rattle.ledger.specs.Calls.{Seen}

@@ -2,14 +2,18 @@
 // after the decision: a refusal has written nothing. The decision sees one record of the list and is
 // told of the rest whether it agrees with the table, so that it serves a list by value and a lent one.
 ghost use mathlib.Core.Path.{_≡_};
-ghost use mathlib.Core.Bool.{true};
-ghost use Prim.Native.Nat.{ℕ, _-_, _≤_};
+ghost use mathlib.Core.Bool.{true, cond};
+ghost use Prim.Native.Nat.{ℕ, _-_, _≤_, _<_};
+ghost use lib.ListN.{set};
+ghost use Rattle.rules.specs.Tells.{Tells};
 ghost use Rattle.rules.specs.Wheels.{Legal};
 ghost use Rattle.rules.specs.Paths.{chipOf};
 ghost use Rattle.rules.specs.Flows.{Own};
 ghost use Rattle.rules.specs.Orders.{Tabled};
-ghost use Rattle.rules.specs.Promises.{openRecord, closedRecord};
+ghost use Rattle.rules.specs.Promises.{openRecord, closedRecord, Opens, Closes, Reports};
+ghost use Rattle.agree.specs.Checks.{Agrees};
 ghost use Rattle.flows.specs.Tests.{chipWith};
+ghost use Rattle.core.specs.ByValue.{RecordOf};
 ghost use Rattle.core.specs.Pieces.{Gates, openedBy, DecidesPath, DecidesOpen, OpensOne, DecidesFlow, DecidesClose, ClosesOne, ReportsOne};
 use rules::Cleared;
 use rules::Demand;
@@ -308,4 +312,105 @@ pub fn report_one(table: &[u8], w: Wheel, n: usize, agreed: bool, held: usize) -
             })
         }
     }
+}
+
+// ---- the list by value: 64 records, of which the first `count` are used
+
+// The answer of an opening, and the list afterwards.
+pub struct OpenedList {
+    pub answer: Opened,
+    pub list: [Record; 64],
+}
+
+// The answer of a closing, and the list afterwards.
+pub struct ClearedList {
+    pub answer: Cleared,
+    pub list: [Record; 64],
+}
+
+// Whether wheel, table and count are good, and table and list agree.
+pub fn agrees(table: &[u8], w: Wheel, list: [Record; 64], count: usize) -> bool
+    ensures { λ r. ⌜ Tells r (Agrees (chipOf w (now (table .entry))) (now (table .entry)) count list) ⌝ }
+{
+    let c = agree::check(table, w, list, count);
+    agree::settle(table, c)
+}
+
+// The record of a flow; the closed one where the list has no such flow.
+fn record_of(list: [Record; 64], count: usize, flow: usize) -> Record
+    ensures { λ r. ⌜ RecordOf list count flow r ⌝ }
+{
+    if flow < 1 {
+        return closed_record();
+    }
+    if count < flow {
+        return closed_record();
+    }
+    if 64 < flow {
+        return closed_record();
+    }
+    list[flow - 1]
+}
+
+// The list with `new` at place `at`, if `go`.
+fn stored(list: [Record; 64], go: bool, at: usize, new: Record) -> [Record; 64]
+    requires { ⌜ (go ≡ true → at < 64) ⌝ }
+    ensures { λ r. ⌜ r ≡ cond go (set list at new) list ⌝ }
+{
+    let mut l = list;
+    if go {
+        l[at] = new;
+    }
+    l
+}
+
+// Opens a flow on a path with a demand.
+pub fn open(
+    table: &mut [u8],
+    w: Wheel,
+    list: [Record; 64],
+    count: usize,
+    flow: usize,
+    path: [u16; 16],
+    len: usize,
+    demand: Demand,
+) -> OpenedList
+    ensures { λ r. ⌜ Opens (chipOf w (now (table .entry))) (now (table .entry)) count list path len flow demand (now (table .exit)) (r .list) (r .answer) ⌝ }
+{
+    let agreed = agrees(table, w, list, count);
+    let r = record_of(list, count, flow);
+    let s = r.state;
+    let o = open_one(table, w, count, agreed, s, flow, path, len, demand);
+    let new = o.new;
+    let answer = o.answer;
+    let l = stored(list, o.go, o.at, new);
+    OpenedList { answer, list: l }
+}
+
+// Closes a flow.
+pub fn close(
+    table: &mut [u8],
+    w: Wheel,
+    list: [Record; 64],
+    count: usize,
+    flow: usize,
+) -> ClearedList
+    ensures { λ r. ⌜ Closes (chipOf w (now (table .entry))) (now (table .entry)) count list flow (now (table .exit)) (r .list) (r .answer) ⌝ }
+{
+    let agreed = agrees(table, w, list, count);
+    let r = record_of(list, count, flow);
+    let o = close_one(table, w, count, agreed, r, flow);
+    let new = o.new;
+    let answer = o.answer;
+    let l = stored(list, o.go, o.at, new);
+    ClearedList { answer, list: l }
+}
+
+// Reports free and held cells.
+pub fn report(table: &[u8], w: Wheel, list: [Record; 64], count: usize) -> Reported
+    ensures { λ a. ⌜ Reports (chipOf w (now (table .entry))) (now (table .entry)) count list a ⌝ }
+{
+    let c = agree::check(table, w, list, count);
+    let agreed = agree::settle(table, c);
+    report_one(table, w, count, agreed, c.held)
 }

@@ -4,8 +4,7 @@ use mathlib.Core.Logic.{inl, inr}
 use native.Mathlib.Omega.{arith}
 use borrow.Author.Needs.{needs}
 use borrow.Author.Tests.{not-true, not-false}
-use Rattle.rules.specs.Numbers.{Refuses, Passes}
-use Rattle.laws.specs.Logic.{not-both}
+use Rattle.rules.specs.Numbers.{Refuses}
 use Rattle.core.specs.Pieces.{DecidesFlow}
 use Rattle.core.specs.Gate.{listed-flow}
 use Rattle.core.proofs.decide_flow.Statement.{statement}

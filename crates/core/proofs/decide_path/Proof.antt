@@ -1,19 +1,16 @@
 -- 5 to 9, 11 and 12 are tests, each behind those before it; then bare selection decides.
-use mathlib.Core.Path.{_≡_, refl, sym, ap, _∙_}
-use mathlib.Core.Bool.{true, false}
-use mathlib.Core.Logic.{_⊎_, inl, inr}
-use Prim.Native.Nat.{_≤_, _<_}
+use mathlib.Core.Path.{_≡_, refl, sym, _∙_}
+use mathlib.Core.Bool.{false}
+use mathlib.Core.Logic.{inl, inr}
 use native.Mathlib.Omega.{arith}
 use denote.Ref.{now}
 use borrow.Author.Needs.{needs}
 use borrow.Author.Tests.{not-true, not-false}
-use Rattle.rules.specs.Paths.{chipOf, travel, allowed, Inside, Once}
+use Rattle.rules.specs.Paths.{chipOf, Inside, Once}
 use Rattle.rules.specs.Flows.{claiming}
 use Rattle.rules.specs.Numbers.{Refuses}
 use Rattle.laws.specs.Logic.{not-both}
 use Rattle.flows.specs.Tests.{travel-is, allowed-is}
-use Rattle.table.specs.Rows.{Walkable}
-use Rattle.ledger.specs.Calls.{Seen}
 use Rattle.core.specs.Pieces.{DecidesPath}
 use Rattle.core.specs.Gate.{listed-flow}
 use Rattle.core.specs.Opening.{long-path, selection-decides}
