@@ -1,0 +1,4 @@
+pub mod Callee
+pub mod Lent
+pub mod Loans
+pub mod Rows
