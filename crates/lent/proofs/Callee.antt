@@ -2,9 +2,9 @@
 --     Values ks, Good ks a, spelled ks a      values of the types ks; that each is one of its type; and their machine values
 --     Lending          the callee takes one `&mut [T]` first.  holds ys a r zs: of the list, the other arguments, the result and the last list
 --     Shown            it takes one `&[T]` first
---     BothShown        it takes two of them first
+--     BothLent, BothShown     it takes two of them first, both `&mut` or both `&`
 --     Plainly          it takes no reference
---     lending, shown, both-shown, plainly      the contract, as `denote.Triple.Spec.tripleOf` has it
+--     lending, shown, both-lent, both-shown, plainly      the contract, as `denote.Triple.Spec.tripleOf` has it
 -- What holds is any relation: the result and the last list need not be fixed by it.
 -- Assumes nothing: these are definitions, but for `owned` and `round`.
 use mathlib.Core.Path.{_≡_, refl}
@@ -85,6 +85,12 @@ module _ {M : Type 1} (𝓤 : URA M) (H : Heap 𝓤) (A : Atoms 𝓤) where
     pub needs : List (R .Denot) → Values takes → SProp 𝓤
     pub holds : List (R .Denot) → Values takes → gives .row .Denot → Type 0
 
+  pub record BothLent (R S : RattleType) : Type 2 where
+    pub takes : List (Known 𝓤 H A)
+    pub gives : Known 𝓤 H A
+    pub needs : List (R .Denot) → List (S .Denot) → Values takes → SProp 𝓤
+    pub holds : List (R .Denot) → List (S .Denot) → Values takes → gives .row .Denot → List (R .Denot) → List (S .Denot) → Type 0
+
   pub record BothShown (R S : RattleType) : Type 2 where
     pub takes : List (Known 𝓤 H A)
     pub gives : Known 𝓤 H A
@@ -130,6 +136,23 @@ module _ {M : Type 1} (𝓤 : URA M) (H : Heap 𝓤) (A : Atoms 𝓤) where
 
     abbrev pub shown : Contract 𝓤
     shown = tripleOf 𝓤 H A (shown-ended .signature) (closing 𝓤 H A shown-ended shown-clauses)
+
+  module _ (R S : RattleType) (c : BothLent R S) where
+    abbrev pub both-lent-ended : Ended
+    both-lent-ended = record {
+      signature = record { lifetimes = 2; outlives = []; params = mutSliceOf (0 ∷ []) tt (plain (λ _. R)) ∷ mutSliceOf (1 ∷ []) tt (plain (λ _. S)) ∷ slots (c .takes); result = plain (λ _. c .gives .row) };
+      kept = (yes, (yes, all yes (slots (c .takes))));
+    }
+
+    abbrev pub both-lent-clauses : Clauses 𝓤 both-lent-ended
+    both-lent-clauses κs x = record {
+      ghost = Unit {0};
+      requires = λ _. c .needs (now (x .0)) (now (x .1 .0)) (values 2 (c .takes) κs (x .1 .1));
+      ensures = λ _ r e. fact 𝓤 (c .holds (now (x .0)) (now (x .1 .0)) (values 2 (c .takes) κs (x .1 .1)) r (now (e .0)) (now (e .1 .0)));
+    }
+
+    abbrev pub both-lent : Contract 𝓤
+    both-lent = tripleOf 𝓤 H A (both-lent-ended .signature) (closing 𝓤 H A both-lent-ended both-lent-clauses)
 
   module _ (R S : RattleType) (c : BothShown R S) where
     abbrev pub both-shown-ended : Ended

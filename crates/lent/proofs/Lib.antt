@@ -2,3 +2,4 @@ pub mod Callee
 pub mod Lent
 pub mod Loans
 pub mod Rows
+pub mod Walked
