@@ -1,4 +1,6 @@
 pub mod Callee
+pub mod Cited
+pub mod Frames
 pub mod Lent
 pub mod Loans
 pub mod Rows
