@@ -38,7 +38,7 @@ use Rattle.lent.proofs.Callee.{Values, Good, shown, both-shown, plainly}
 use Rattle.lent.proofs.Cited.{RecordAt}
 use Rattle.lent.proofs.Loans.{Handle, slice-of, Shr, of-shr}
 use Rattle.lent.proofs.Lent.{calls-shown, calls-plain}
-use Rattle.lent.proofs.Frames.{Homes, Cell, empty, full, env, frame, allocates, frees-held, frees-room, turns-on}
+use Rattle.lent.proofs.Frames.{Homes, Cell, empty, full, env, frame, allocates, frees-held, frees-room, turns-on, held, keeps, sets}
 use Rattle.lent.proofs.Walked.BothShown.{Ends, ends, meets}
 use Rattle.jellyspire.proofs.Core.{checked, Begun, Nothing, Step, CheckAll}
 use Rattle.lent.proofs.record_at.Symbol as record-at-def
@@ -98,21 +98,21 @@ module _ {M : Type 1} (𝓤 : URA M) (H : Heap 𝓤) (A : Atoms 𝓤) (W : Given
       turns : (x : Upto) → Sq W (At x) (runs (𝓣 .C) (𝓣 .Λ) (env 𝓤 H A body.locals bs) body.turn-1 (anyQ (Turned x)))
       unfolding afterTurn
       turns x =
-          assigns ! (of-opd ! (load ! (from ! (fld ! refl (stop !))) (look-in ! 4 (sub ! 1 refl (whole !))))) (from ! (stop !)) (init ! 16 refl (tt, record { fits = room′ .0 })) $
-          assigns ! (bin ! (load ! (from ! (stop !)) (look ! 12 refl)) (load ! (from ! (stop !)) (look ! 16 refl)) tt) (from ! (stop !)) (init ! 18 refl (tt, tt)) $
-          turns-on ! (load ! (from ! (stop !)) (look ! 18 refl))
+          sets ! (of-opd ! (load ! (from ! (fld ! refl (stop !))) (look-in ! 4 (sub ! 1 refl (whole !))))) refl (tt, record { fits = room′ .0 }) $
+          sets ! (bin ! (held ! refl) (held ! refl) tt) refl (tt, tt) $
+          turns-on ! (held ! refl)
           (λ less. let l : x .0 < n = ltb→lt (x .0) n less in
           calls-shown ! (fmOf 𝓤 H (W .laws) 𝓣) Rec (RecordAt 𝓤 H A W) known-at h′ list (Shr Rec h′ list) (of-shr W Rec h′ list) (x .0, (o, tt)) ((refl, fits (x .0) (x .2)), (o-is, tt)) (id⊢ 𝓤 (emp 𝓤)) 21 tt refl
-          (λ _. and-then ! (load ! (from ! (stop !)) (look ! 4 refl)) (and-then ! (load ! (from ! (stop !)) (look ! 12 refl)) (and-then ! (load ! (from ! (stop !)) (look ! 10 refl)) (no-more !)))) (λ r is read.
-          land ! (from ! (stop !)) (init ! 14 refl (flow 𝓤 H A W .typed r is .0)) $
+          (λ _. and-then ! (held ! refl) (and-then ! (held ! refl) (and-then ! (held ! refl) (no-more !)))) (λ r is read.
+          keeps ! refl (flow 𝓤 H A W .typed r is .0) $
           calls-shown ! (fmOf 𝓤 H (W .laws) 𝓣) u8 (Step 𝓤 H A W) known-step h t (Shr u8 h t) (of-shr W u8 h t) (w, (x .1, (r, (x .0, tt)))) (good .0, (x .3, (is, ((refl, fits (x .0) (x .2)), tt)))) (id⊢ 𝓤 (emp 𝓤)) 20 tt refl
-          (λ _. and-then ! (load ! (from ! (stop !)) (look ! 2 refl)) (and-then ! (load ! (from ! (stop !)) (look ! 6 refl)) (and-then ! (load ! (from ! (stop !)) (look ! 8 refl)) (and-then ! (load ! (from ! (stop !)) (look ! 14 refl)) (and-then ! (load ! (from ! (stop !)) (look ! 12 refl)) (no-more !)))))) (λ c is-c stepped.
+          (λ _. and-then ! (held ! refl) (and-then ! (held ! refl) (and-then ! (held ! refl) (and-then ! (held ! refl) (and-then ! (held ! refl) (no-more !)))))) (λ c is-c stepped.
           land ! (from ! (stop !)) (store ! 8 refl (checked 𝓤 H A W .typed c is-c .0)) $
-          assigns-last ! (bin ! (load ! (from ! (stop !)) (look ! 12 refl)) (lit ! tt) (record { fits = fits (x .0 + 1) (add-one-le l) })) (from ! (stop !)) (store ! 12 refl (tt, record { fits = fits (x .0 + 1) (add-one-le l) })) $
+          assigns-last ! (bin ! (held ! refl) (lit ! tt) (record { fits = fits (x .0 + 1) (add-one-le l) })) (from ! (stop !)) (store ! 12 refl (tt, record { fits = fits (x .0 + 1) (add-one-le l) })) $
           forget ! 14 refl $ forget ! 16 refl $ forget ! 18 refl $
           again ! Nearer At x (x .0 + 1, c, add-one-le l, is-c, steps (x .0) (x .1) c (x .4) (subst (λ (r : Record). Stepped t w (x .1) r (x .0) c) (read ∙ is-read (ltb (x .0) (length list)) (getD list (x .0) none) o (lt→ltb (x .0) (length list) (subst (λ (k : ℕ). x .0 < k) (sym len′) l))) stepped)) (add-one-dec n (x .0) l))))
           (λ over. exec ! (𝓣 .C) (𝓣 .Λ) (env 𝓤 H A body.locals bs) body.t-5 Q $
-          assigns ! (of-opd ! (load ! (from ! (stop !)) (look ! 8 refl))) (from ! (stop !)) (init ! 0 refl (checked 𝓤 H A W .typed (x .1) (x .3) .0)) $
+          sets ! (of-opd ! (held ! refl)) refl (checked 𝓤 H A W .typed (x .1) (x .3) .0) $
           returns ! (look ! 0 refl) $ frees-held ! $ frees-held ! $ frees-held ! $ frees-held ! $ frees-held ! $ frees-held ! $ frees-held ! $ frees-room ! $ frees-held ! $ frees-held ! $ free0 ! $
           ends 𝓤 H A W u8 Rec (CheckAll 𝓤 H A W) ! h h′ t list (w, tt) (x .1) (x .3) (subst (λ (k : ℕ). Checks t w list k (x .1)) (le-antisymm (x .2) (nltb→le (x .0) n over) ∙ sym len′) (x .4)))
         where
@@ -122,11 +122,11 @@ module _ {M : Type 1} (𝓤 : URA M) (H : Heap 𝓤) (A : Atoms 𝓤) (W : Given
     starts : (bs : Homes body.locals) → Sq W (frame 𝓤 H A body.locals bs (empty ∷ full (slice-of h) ∷ full (slice-of h′) ∷ full (wheel 𝓤 H A W .val w) ∷ []) (Shr u8 h t ∷ Shr Rec h′ list ∷ raw (emp 𝓤) ∷ []))
         (runs (𝓣 .C) (𝓣 .Λ) (env 𝓤 H A body.locals bs) body.t-1 (atRet (env 𝓤 H A body.locals bs) (Ends 𝓤 H A W u8 Rec (CheckAll 𝓤 H A W) h h′ t list (w, tt))))
     starts bs =
-        calls-plain ! (fmOf 𝓤 H (W .laws) 𝓣) (Begun 𝓤 H A W) known-begun (w, tt) good (id⊢ 𝓤 (emp 𝓤)) (λ _. and-then ! (load ! (from ! (stop !)) (look ! 7 refl)) (no-more !)) (λ c is-c begun.
-        land ! (from ! (stop !)) (init ! 8 refl (checked 𝓤 H A W .typed c is-c .0)) $
+        calls-plain ! (fmOf 𝓤 H (W .laws) 𝓣) (Begun 𝓤 H A W) known-begun (w, tt) good (id⊢ 𝓤 (emp 𝓤)) (λ _. and-then ! (held ! refl) (no-more !)) (λ c is-c begun.
+        keeps ! refl (checked 𝓤 H A W .typed c is-c .0) $
         calls-plain ! (fmOf 𝓤 H (W .laws) 𝓣) (Nothing 𝓤 H A W) known-nothing tt tt (id⊢ 𝓤 (emp 𝓤)) (λ _. no-more !) (λ o is-o _.
-        land ! (from ! (stop !)) (init ! 10 refl (flow 𝓤 H A W .typed o is-o .0)) $
-        assigns ! (of-opd ! (lit ! tt)) (from ! (stop !)) (init ! 12 refl (tt, record { fits = lit< tt })) $
+        keeps ! refl (flow 𝓤 H A W .typed o is-o .0) $
+        sets ! (of-opd ! (lit ! tt)) refl (tt, record { fits = lit< tt }) $
         first ! $ blocks ! $ loops ! 𝓣 Nearer Nearer-wf (At o is-o bs) (turns o is-o bs) (0, c, zero-le, is-c, begins c begun)))
 
   check-all-meets : Triple 𝓤 (WpFn 𝓤 H (𝓣 .C) (𝓣 .Λ) code.function) (both-shown 𝓤 H A u8 Rec (CheckAll 𝓤 H A W))
