@@ -55,7 +55,7 @@ module _ {M : Type 1} (𝓤 : URA M) (H : Heap 𝓤) (A : Atoms 𝓤) (W : Given
   Nothing = record { takes = []; gives = flow 𝓤 H A W; needs = λ a. emp 𝓤; holds = λ a r. r .len ≡ 0 }
 
   abbrev pub PlaceOf : Plainly 𝓤 H A
-  PlaceOf = record { takes = word 𝓤 H A W ∷ []; gives = word 𝓤 H A W; needs = λ a. emp 𝓤; holds = λ a r. Unit {0} }
+  PlaceOf = record { takes = word 𝓤 H A W ∷ []; gives = word 𝓤 H A W; needs = λ a. emp 𝓤; holds = λ a r. r ≡ r }
 
   abbrev pub Step : Shown 𝓤 H A u8
   Step = record {

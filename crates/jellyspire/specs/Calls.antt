@@ -3,9 +3,9 @@ use mathlib.Core.Path.{_≡_}
 use mathlib.Core.Bool.{true, _&&_, cond}
 use mathlib.Core.List.{List}
 use Prim.Native.Nat.{ℕ, _+_}
-use lib.ListN.{length, getD, set}
+use lib.ListN.{length, set}
 use lib.Dec.{ltb}
-use Rattle.rules.specs.Flows.{none, flow}
+use Rattle.rules.specs.Flows.{flow}
 use Rattle.rules.specs.declared.Wheel.{Wheel}
 use Rattle.rules.specs.declared.Demand.{Demand}
 use Rattle.rules.specs.declared.Record.{Record}
@@ -25,7 +25,10 @@ pub data Checks (t : List ℕ) (w : Wheel) (list : List Record) : ℕ → Checke
 pub record OpensAll (t : List ℕ) (list : List Record) (w : Wheel) (f : ℕ) (path : List ℕ) (m : ℕ) (d : Demand) (r : Opened) (t′ : List ℕ) (list′ : List Record) : Type 0 where
   pub checked : Checked
   pub checks : Checks t w list (length list) checked
+  pub place : ℕ
+  pub otherwise : Record
   pub old : Record
+  pub found : old ≡ cond (ltb place (length list)) (flow list place) otherwise
   pub made : Decision
   pub opens : OpensOne t w (length list) checked old f path m d t′ made
   pub kept : list′ ≡ cond (made .go && ltb (made .at) (length list)) (set list (made .at) (made .next)) list
@@ -34,7 +37,10 @@ pub record OpensAll (t : List ℕ) (list : List Record) (w : Wheel) (f : ℕ) (p
 pub record ClosesAll (t : List ℕ) (list : List Record) (w : Wheel) (f : ℕ) (r : Cleared) (t′ : List ℕ) (list′ : List Record) : Type 0 where
   pub checked : Checked
   pub checks : Checks t w list (length list) checked
+  pub place : ℕ
+  pub otherwise : Record
   pub old : Record
+  pub found : old ≡ cond (ltb place (length list)) (flow list place) otherwise
   pub made : Closing
   pub closes : ClosesOne t w (length list) checked old f t′ made
   pub kept : list′ ≡ cond (made .go && ltb (made .at) (length list)) (set list (made .at) (made .next)) list

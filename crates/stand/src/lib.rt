@@ -122,7 +122,9 @@ pub fn nothing() -> Record
 }
 
 // The place of a flow in the list; past every list for flow 0.
-pub fn place_of(flow: usize) -> usize {
+pub fn place_of(flow: usize) -> usize
+    ensures { λ r. ⌜ r ≡ r ⌝ }
+{
     if flow == 0 {
         return 65535;
     }
