@@ -3,20 +3,20 @@ ghost use lib.ListN.{length};
 ghost use Rattle.jellyspire.specs.Calls.{Checks, OpensAll, ClosesAll, ReportsAll};
 use lent::record_at;
 use lent::replace_if;
-use rules::Wheel;
-use rules::Demand;
-use rules::Record;
-use rules::Opened;
 use rules::Cleared;
+use rules::Demand;
+use rules::Opened;
+use rules::Record;
 use rules::Reported;
+use rules::Wheel;
 use stand::Checked;
 use stand::begun;
-use stand::nothing;
-use stand::place_of;
-use stand::step;
-use stand::open_one;
 use stand::close_one;
+use stand::nothing;
+use stand::open_one;
+use stand::place_of;
 use stand::report_one;
+use stand::step;
 
 // One step for each record of the list.
 pub fn check_all(table: &[u8], list: &[Record], w: Wheel) -> Checked

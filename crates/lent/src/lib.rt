@@ -11,11 +11,7 @@ use rules::Record;
 pub fn record_at(list: &[Record], i: usize, otherwise: Record) -> Record
     ensures { λ r. ⌜ r ≡ cond (ltb i (length (now (list .entry)))) (getD (now (list .entry)) i none) otherwise ⌝ }
 {
-    if i < list.len() {
-        list[i]
-    } else {
-        otherwise
-    }
+    if i < list.len() { list[i] } else { otherwise }
 }
 
 // Puts r at place i of the list if `go` says so and the list is that long.

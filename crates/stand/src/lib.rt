@@ -2,15 +2,15 @@
 ghost use mathlib.Core.Path.{_≡_};
 ghost use mathlib.Core.Bool.{true};
 ghost use Rattle.stand.specs.Steps.{Stepped, OpensOne, ClosesOne, ReportsOne};
-use rules::Wheel;
-use rules::Demand;
-use rules::Record;
-use rules::State;
-use rules::Refusal;
-use rules::Opened;
 use rules::Cleared;
+use rules::Demand;
+use rules::Opened;
+use rules::Record;
+use rules::Refusal;
 use rules::Reported;
+use rules::State;
 use rules::Totals;
+use rules::Wheel;
 
 pub struct Checked {
     pub ok: bool,

@@ -17,7 +17,7 @@ use base.Logic.{SProp, emp, id⊢}
 use prog.Wp.{Heap, Out, afterSeq, afterBlock, afterTurn, Wp, WpFn, atReturn, Tables}
 use ghost.Atoms.{Atoms}
 use contract.Running.{givenOf, tables, tablesOf}
-use types.Kit.{Given, Item, Sq, Post, anyQ, runs, atRet, raw, _$_, !}
+use types.Kit.{Given, Item, Sq, Post, anyQ, runs, atRet, raw, _$_, ! }
 use types.Run.{look, init, store, forget, stop, fld, from, load, lit, of-opd, bin, and-then, no-more, assigns, assigns-last, land, first, blocks, exec, returns, enter, params1, pass1, pass0, Below, again, loops}
 use types.Part.{whole, sub, look-in}
 use sound.WpLaws.{fmOf}

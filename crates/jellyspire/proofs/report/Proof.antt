@@ -12,7 +12,7 @@ use prog.Wp.{Heap, WpFn, Tables}
 use ghost.Atoms.{Atoms}
 use sound.WpLaws.{FmC, fmOf}
 use contract.Running.{givenOf, tables, tablesOf}
-use types.Kit.{Given, Sq, runs, atRet, raw, _$_, !}
+use types.Kit.{Given, Sq, runs, atRet, raw, _$_, ! }
 use types.Run.{look, init, stop, fld, from, load, of-opd, and-then, no-more, returns, enter, params1, pass1, pass0}
 use types.Part.{whole, sub, look-in}
 use denote.Builtin.{u8}
