@@ -31,7 +31,7 @@ use denote.Triple.Statement.{Triple}
 use denote.Triple.Call.{calls-at}
 use denote.Triple.Clauses.{Lasts, lasts}
 use Rattle.lent.proofs.Callee.{Values, Good, spelled, slots, args, values, valss, round, flat-is, owned, Lending, lending, lending-ended, Shown, shown, shown-ended, BothShown, both-shown, both-shown-ended, Plainly, plainly, plainly-ended}
-use Rattle.lent.proofs.Loans.{Handle, slice-of, again, lent-for, ref-at, mut-own, shr-own, Mut, Shr, Lent, Key, Loan, lends, comes-back, View}
+use Rattle.lent.proofs.Loans.{Handle, slice-of, lent-for, ref-at, Mut, Shr, Lent, Key, Loan, lends, comes-back, View, seen}
 
 -- ---- an entry taken out, and put back where it was
 module _ {M : Type 1} (𝓤 : URA M) (H : Heap 𝓤) (A : Atoms 𝓤) where
@@ -215,12 +215,12 @@ module _ {M : Type 1} {𝓤 : URA M} {H : Heap 𝓤} {A : Atoms 𝓤} {K : Type 
       → ((r : c .gives .row .Denot) → Is (c .gives .row) r (c .gives .val r ∷ []) → c .holds ys a r → Seq K W Γ (lands C Λ E d (c .gives .val r) rest p))
       → Seq K W Γ (runs C Λ E (seq (call f xs d) rest) p)
   calls-shown t fm R c known h ys entry view a good needs i within is os k =
-      takes-out t i entry is $ use1 W (later (some (λ (key : view .At). Shr R (again h (view .lft key) (view .share key) (view .name key)) ys ⊛ view .kept key))) (view .out) $ await t tt $ pick t (λ (key : view .At). split t $
-      let pre : SProp 𝓤 = shown 𝓤 H A R c .pre (to-shown 𝓤 H A W R c (again h (view .lft key) (view .share key) (view .name key)) ys a) in
-      use1 W (raw pre) (asks-shown 𝓤 H A W R c (again h (view .lft key) (view .share key) (view .name key)) ys a good needs) $
-      calls-at t fm (shown 𝓤 H A R c) known (to-shown 𝓤 H A W R c (again h (view .lft key) (view .share key) (view .name key)) ys a)
+      takes-out t i entry is $ use1 W (later (some (λ (key : view .At). Shr R (seen view key) ys ⊛ view .kept key))) (view .out) $ await t tt $ pick t (λ (key : view .At). split t $
+      let pre : SProp 𝓤 = shown 𝓤 H A R c .pre (to-shown 𝓤 H A W R c (seen view key) ys a) in
+      use1 W (raw pre) (asks-shown 𝓤 H A W R c (seen view key) ys a good needs) $
+      calls-at t fm (shown 𝓤 H A R c) known (to-shown 𝓤 H A W R c (seen view key) ys a)
       (reads-at Γ i within (raw pre) (view .kept key) (subst (λ (us : List Val). Opds K W (put 𝓤 H A i (raw pre ⊛ view .kept key) Γ) E xs (slice-of h ∷ us)) (sym (flat-is 1 (c .takes) (view .lft key, tt) a)) (os _))) (λ u.
-      hears-shown 𝓤 H A W R c (again h (view .lft key) (view .share key) (view .name key)) ys a t tt u (λ r good-r said told.
+      hears-shown 𝓤 H A W R c (seen view key) ys a t tt u (λ r good-r said told.
       use2 W (later entry) (view .back key) $ await t tt $ restores t Γ i entry is $
       subst (λ (v : Val). Seq K W Γ (lands C Λ E d v rest p)) (sym told) (k r good-r said))))
 
@@ -232,13 +232,13 @@ module _ {M : Type 1} {𝓤 : URA M} {H : Heap 𝓤} {A : Atoms 𝓤} {K : Type 
       → Seq K W Γ (runs C Λ E (seq (call f xs d) rest) p)
   calls-both t fm R S c known h ys entry view h′ zs entry′ view′ a good needs i within is is′ os k =
       takes-out t i entry is $ takes-out t (suc i) entry′ is′ $
-      use1 W (later (some (λ (key : view′ .At). Shr S (again h′ (view′ .lft key) (view′ .share key) (view′ .name key)) zs ⊛ view′ .kept key))) (view′ .out) $ await t tt $ pick t (λ (key′ : view′ .At). split t $ move t (2 ∷ []) $
-      use1 W (later (some (λ (key : view .At). Shr R (again h (view .lft key) (view .share key) (view .name key)) ys ⊛ view .kept key))) (view .out) $ await t tt $ pick t (λ (key : view .At). split t $ move t (0 ∷ 2 ∷ 1 ∷ 3 ∷ []) $
-      let pre : SProp 𝓤 = both-shown 𝓤 H A R S c .pre (to-both 𝓤 H A W R S c (again h (view .lft key) (view .share key) (view .name key)) (again h′ (view′ .lft key′) (view′ .share key′) (view′ .name key′)) ys zs a) in
-      use2 W (raw pre) (asks-both 𝓤 H A W R S c (again h (view .lft key) (view .share key) (view .name key)) (again h′ (view′ .lft key′) (view′ .share key′) (view′ .name key′)) ys zs a good needs) $ move t (1 ∷ 2 ∷ []) $ join t $ move t (1 ∷ 0 ∷ []) $
-      calls-at t fm (both-shown 𝓤 H A R S c) known (to-both 𝓤 H A W R S c (again h (view .lft key) (view .share key) (view .name key)) (again h′ (view′ .lft key′) (view′ .share key′) (view′ .name key′)) ys zs a)
+      use1 W (later (some (λ (key : view′ .At). Shr S (seen view′ key) zs ⊛ view′ .kept key))) (view′ .out) $ await t tt $ pick t (λ (key′ : view′ .At). split t $ move t (2 ∷ []) $
+      use1 W (later (some (λ (key : view .At). Shr R (seen view key) ys ⊛ view .kept key))) (view .out) $ await t tt $ pick t (λ (key : view .At). split t $ move t (0 ∷ 2 ∷ 1 ∷ 3 ∷ []) $
+      let pre : SProp 𝓤 = both-shown 𝓤 H A R S c .pre (to-both 𝓤 H A W R S c (seen view key) (seen view′ key′) ys zs a) in
+      use2 W (raw pre) (asks-both 𝓤 H A W R S c (seen view key) (seen view′ key′) ys zs a good needs) $ move t (1 ∷ 2 ∷ []) $ join t $ move t (1 ∷ 0 ∷ []) $
+      calls-at t fm (both-shown 𝓤 H A R S c) known (to-both 𝓤 H A W R S c (seen view key) (seen view′ key′) ys zs a)
       (reads-at (del 𝓤 H A i Γ) i within (raw pre) (view .kept key ⊛ view′ .kept key′) (subst (λ (us : List Val). Opds K W (put 𝓤 H A i (raw pre ⊛ (view .kept key ⊛ view′ .kept key′)) (del 𝓤 H A i Γ)) E xs (slice-of h ∷ slice-of h′ ∷ us)) (sym (flat-is 2 (c .takes) (view .lft key, (view′ .lft key′, tt)) a)) (os _))) (λ u.
-      hears-both 𝓤 H A W R S c (again h (view .lft key) (view .share key) (view .name key)) (again h′ (view′ .lft key′) (view′ .share key′) (view′ .name key′)) ys zs a t tt u (λ r good-r said told. move t (2 ∷ []) $ split t $ move t (2 ∷ 0 ∷ []) $
+      hears-both 𝓤 H A W R S c (seen view key) (seen view′ key′) ys zs a t tt u (λ r good-r said told. move t (2 ∷ []) $ split t $ move t (2 ∷ 0 ∷ []) $
       use2 W (later entry) (view .back key) $ await t tt $ move t (2 ∷ 1 ∷ []) $ use2 W (later entry′) (view′ .back key′) $ await t tt $
       restores t (entry ∷ del 𝓤 H A i Γ) (suc i) entry′ is′ $ restores t Γ i entry is $
       subst (λ (v : Val). Seq K W Γ (lands C Λ E d v rest p)) (sym told) (k r good-r said)))))

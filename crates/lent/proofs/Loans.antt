@@ -2,7 +2,7 @@
 --     Handle           what a slice reference is beside its list: its lifetime and the share of the token, its ghost name, where it points, and the count in its machine value
 --     Mut R h ys, Shr R h ys      the entry of a `&mut [T]` and of a `&[T]` at the list ys
 --     Lent, lends, comes-back     a `&mut [T]` is lent as a `&mut [T]`: what is kept meanwhile; the loan; and that it comes back at the last list
---     View             an entry that can be shown to a callee as a `&[T]`, and comes back as it was.        of-mut, of-shr     of each of the two
+--     View, seen       an entry that can be shown to a callee as a `&[T]`, and comes back as it was; the reference that the callee gets.        of-mut, of-shr     of each of the two entries
 -- The count need not be the length of the list by computation: the two are equal, which is what a list that has changed leaves.
 -- Assumes `Given`.
 use mathlib.Core.Path.{_≡_, refl, sym, ap, subst, _∙_}
@@ -157,6 +157,10 @@ pub record View {M : Type 1} (𝓤 : URA M) (H : Heap 𝓤) (A : Atoms 𝓤) (en
   pub kept : At → Item 𝓤
   pub out : ent 𝓤 (mean 𝓤 H A entry) (H .⇛ (ex 𝓤 (λ (k : At). sep 𝓤 (mean 𝓤 H A (Shr R (again h (lft k) (share k) (name k)) ys)) (mean 𝓤 H A (kept k)))))
   pub back : (k : At) → ent 𝓤 (sep 𝓤 (A .lft (lft k) (share k)) (mean 𝓤 H A (kept k))) (H .⇛ (mean 𝓤 H A entry))
+
+-- the reference that the callee is shown
+abbrev pub seen : {M : Type 1} {𝓤 : URA M} {H : Heap 𝓤} {A : Atoms 𝓤} {entry : Item 𝓤} {R : RattleType} {h : Handle} {ys : List (R .Denot)} (view : View 𝓤 H A entry R h ys) → view .At → Handle
+seen {h = h} view k = again h (view .lft k) (view .share k) (view .name k)
 
 module _ {M : Type 1} {𝓤 : URA M} {H : Heap 𝓤} {A : Atoms 𝓤} (W : Given 𝓤 H A) (R : RattleType) (h : Handle) (ys : List (R .Denot)) where
   pub of-mut : length ys ≡ h .count → View 𝓤 H A (Mut R h ys) R h ys

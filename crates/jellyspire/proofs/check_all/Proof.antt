@@ -18,8 +18,8 @@ use prog.Wp.{Heap, Out, afterSeq, afterBlock, afterTurn, Wp, WpFn, atReturn, Tab
 use ghost.Atoms.{Atoms}
 use contract.Running.{givenOf, tables, tablesOf}
 use types.Kit.{Given, Item, Sq, Post, anyQ, runs, atRet, raw, _$_, ! }
-use types.Run.{look, init, store, forget, stop, fld, from, load, lit, of-opd, bin, and-then, no-more, assigns, assigns-last, land, first, blocks, exec, returns, enter, params1, pass1, pass0, Below, again, loops}
-use types.Part.{whole, sub, look-in}
+use types.Run.{look, init, store, forget, stop, from, lit, of-opd, bin, and-then, no-more, assigns, assigns-last, land, first, blocks, exec, returns, enter, params1, pass1, pass0, Below, again, loops}
+use types.Part.{whole, sub}
 use sound.WpLaws.{fmOf}
 use denote.Builtin.{u8}
 use denote.Laws.{Is}
@@ -38,7 +38,7 @@ use Rattle.lent.proofs.Callee.{Values, Good, shown, both-shown, plainly}
 use Rattle.lent.proofs.Cited.{RecordAt}
 use Rattle.lent.proofs.Loans.{Handle, slice-of, Shr, of-shr}
 use Rattle.lent.proofs.Lent.{calls-shown, calls-plain}
-use Rattle.lent.proofs.Frames.{Homes, Cell, empty, full, env, frame, allocates, leaves, turns-on, held, keeps, sets}
+use Rattle.lent.proofs.Frames.{Homes, Cell, empty, full, env, frame, allocates, leaves, turns-on, held, held-in, keeps, sets}
 use Rattle.lent.proofs.Walked.BothShown.{Ends, ends, meets}
 use Rattle.jellyspire.proofs.Core.{checked, Begun, Nothing, Step, CheckAll}
 use Rattle.lent.proofs.record_at.Symbol as record-at-def
@@ -99,7 +99,7 @@ module _ {M : Type 1} (𝓤 : URA M) (H : Heap 𝓤) (A : Atoms 𝓤) (W : Given
       turns : (x : Upto) → Sq W (At x) (runs (𝓣 .C) (𝓣 .Λ) (env 𝓤 H A body.locals bs) body.turn-1 (anyQ (Turned x)))
       unfolding afterTurn
       turns x =
-          sets ! (of-opd ! (load ! (from ! (fld ! refl (stop !))) (look-in ! 4 (sub ! 1 refl (whole !))))) refl (tt, record { fits = room′ .0 }) $
+          sets ! (of-opd ! (held-in ! refl (sub ! 1 refl (whole !)))) refl (tt, record { fits = room′ .0 }) $
           sets ! (bin ! (held ! refl) (held ! refl) tt) refl (tt, tt) $
           turns-on ! (held ! refl)
           (λ less. let l : x .0 < n = ltb→lt (x .0) n less in

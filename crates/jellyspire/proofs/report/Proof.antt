@@ -13,8 +13,8 @@ use ghost.Atoms.{Atoms}
 use sound.WpLaws.{FmC, fmOf}
 use contract.Running.{givenOf, tables, tablesOf}
 use types.Kit.{Given, Sq, runs, atRet, raw, _$_, ! }
-use types.Run.{look, init, stop, fld, from, load, of-opd, and-then, no-more, returns, enter, params1, pass1, pass0}
-use types.Part.{whole, sub, look-in}
+use types.Run.{look, init, of-opd, and-then, no-more, returns, enter, params1, pass1, pass0}
+use types.Part.{whole, sub}
 use denote.Builtin.{u8}
 use denote.Slice.{Room}
 use denote.Triple.Spec.{tripleOf}
@@ -30,7 +30,7 @@ use Rattle.lent.proofs.Rows.{Rec, word, wheel}
 use Rattle.lent.proofs.Callee.{Good, shown, both-shown}
 use Rattle.lent.proofs.Loans.{Handle, slice-of, Shr, of-shr}
 use Rattle.lent.proofs.Lent.{calls-shown, calls-both}
-use Rattle.lent.proofs.Frames.{value, slice, Homes, Cell, empty, full, env, frame, allocates, leaves, held, keeps, sets}
+use Rattle.lent.proofs.Frames.{value, slice, Homes, Cell, empty, full, env, frame, allocates, leaves, held, held-in, keeps, sets}
 use Rattle.lent.proofs.Walked.BothShown.{Ends, ends, meets}
 use Rattle.jellyspire.proofs.Core.{checked, reported, ReportOne, CheckAll, Report}
 use Rattle.stand.proofs.report_one.Symbol as report-one-def
@@ -63,7 +63,7 @@ module _ {M : Type 1} (𝓤 : URA M) (H : Heap 𝓤) (A : Atoms 𝓤) (W : Given
     starts =
         calls-both ! fm u8 Rec (CheckAll 𝓤 H A W) known-all h t (Shr u8 h t) (of-shr W u8 h t) h′ list (Shr Rec h′ list) (of-shr W Rec h′ list) (w, tt) (good .0, tt) (id⊢ 𝓤 (emp 𝓤)) 12 tt refl refl (λ _. and-then ! (held ! refl) (and-then ! (held ! refl) (and-then ! (held ! refl) (no-more !)))) (λ c is-c checks.
         keeps ! refl (checked 𝓤 H A W .typed c is-c .0) $
-        sets ! (of-opd ! (load ! (from ! (fld ! refl (stop !))) (look-in ! 4 (sub ! 1 refl (whole !))))) refl (tt, record { fits = room′ .0 }) $
+        sets ! (of-opd ! (held-in ! refl (sub ! 1 refl (whole !)))) refl (tt, record { fits = room′ .0 }) $
         calls-shown ! fm u8 (ReportOne 𝓤 H A W) known-one h t (Shr u8 h t) (of-shr W u8 h t) (w, (h′ .count, (c, tt))) (good .0, ((refl, room′ .0), (is-c, tt))) (id⊢ 𝓤 (emp 𝓤)) 12 tt refl (λ _. and-then ! (held ! refl) (and-then ! (held ! refl) (and-then ! (held ! refl) (and-then ! (held ! refl) (no-more !))))) (λ r is-r said.
         keeps ! refl (reported 𝓤 H A W .typed r is-r .0) $
         returns ! (look ! 0 refl) $ leaves ! locals bs (full (reported 𝓤 H A W .val r) ∷ (Passed ++ (full (checked 𝓤 H A W .val c) ∷ full (word 𝓤 H A W .val (h′ .count)) ∷ [])))

@@ -16,8 +16,8 @@ use prog.Wp.{Heap, Wp, WpFn, afterSeq, atReturn, Tables}
 use ghost.Atoms.{Atoms}
 use contract.Running.{givenOf, tables, tablesOf}
 use types.Kit.{Given, Item, Sq, Post, anyQ, runs, atRet, ‵, raw, _$_, !, by, move, split, join, rewrite, fsplit, fjoin}
-use types.Run.{look, look-raw, init, forget, stop, hop, fld, from, load, lit, of-opd, bin, first, branches, assigns, assigns-last, exec, returns, enter, params1, pass1, pass0}
-use types.Part.{whole, sub, look-in}
+use types.Run.{look, look-raw, init, forget, stop, hop, from, load, lit, of-opd, bin, first, branches, assigns, assigns-last, exec, returns, enter, params1, pass1, pass0}
+use types.Part.{whole, sub}
 use denote.Laws.{Is, shows}
 use denote.Slice.{Room}
 use denote.Index.{place-is, elem-out, elem-back, looks-slice, shuts-slice}
@@ -31,7 +31,7 @@ use Rattle.lent.proofs.Rows.{Rec, word, flow, copies, offset-fits}
 use Rattle.lent.proofs.Callee.{Values, Good, shown}
 use Rattle.lent.proofs.Cited.{RecordAt}
 use Rattle.lent.proofs.Loans.{Handle, slice-of, Shr}
-use Rattle.lent.proofs.Frames.{Homes, home, Cell, empty, full, env, frame, allocates, leaves, span}
+use Rattle.lent.proofs.Frames.{Homes, home, Cell, empty, full, env, frame, allocates, leaves, span, held, held-in, sets}
 use Rattle.lent.proofs.Walked.Shown.{Ends, ends, meets}
 use Rattle.lent.proofs.record_at.Key.{name as #lent·record-at}
 use Rattle.lent.proofs.record_at as record-at
@@ -84,7 +84,7 @@ module _ {M : Type 1} (𝓤 : URA M) (H : Heap 𝓤) (A : Atoms 𝓤) (W : Given
     finishes : (r : Record) → Is Rec r (flow 𝓤 H A W .val r ∷ []) → r ≡ cond (ltb i (length ys)) elem d
         → Sq W (At (full (vint w64 (h .count)) ∷ full (vbool (ltb i (h .count))) ∷ full (flow 𝓤 H A W .val r) ∷ [])) (runs (𝓣 .C) (𝓣 .Λ) (env 𝓤 H A body.locals bs) body.t-4 Q)
     finishes r is e =
-        assigns ! (of-opd ! (load ! (from ! (stop !)) (look ! 12 refl))) (from ! (stop !)) (init ! 0 refl (flow 𝓤 H A W .typed r is .0)) $
+        sets ! (of-opd ! (held ! refl)) refl (flow 𝓤 H A W .typed r is .0) $
         returns ! (look ! 0 refl) $ leaves ! body.locals bs (full (flow 𝓤 H A W .val r) ∷ Passed ++ (full (vint w64 (h .count)) ∷ full (vbool (ltb i (h .count))) ∷ full (flow 𝓤 H A W .val r) ∷ []))
         (ends 𝓤 H A W Rec (RecordAt 𝓤 H A W) ! h ys a r is e)
 
@@ -94,8 +94,8 @@ module _ {M : Type 1} (𝓤 : URA M) (H : Heap 𝓤) (A : Atoms 𝓤) (W : Given
     within : T (ltb i (h .count)) → i < length ys → Sq W (At Tested) (runs (𝓣 .C) (𝓣 .Λ) (env 𝓤 H A body.locals bs) in-arm Then)
     within z l =
         let fits : WT (vint w64 (i * 56)) = record { fits = offset-fits i (h .count) (ltb→lt i (h .count) z) room } in
-        assigns ! (bin ! (load ! (from ! (stop !)) (look ! 4 refl)) (lit ! tt) fits) (from ! (stop !)) (init ! 14 refl (tt, fits)) $
-        assigns ! (bin ! (load ! (from ! (fld ! refl (stop !))) (look-in ! 2 (sub ! 0 refl (whole !)))) (load ! (from ! (stop !)) (look ! 14 refl)) tt) (from ! (stop !)) (init ! 16 refl (tt, tt)) $
+        sets ! (bin ! (held ! refl) (lit ! tt) fits) refl (tt, fits) $
+        sets ! (bin ! (held-in ! refl (sub ! 0 refl (whole !))) (held ! refl) tt) refl (tt, tt) $
         rewrite ! 16 (λ (p : ℕ). ‵ (fat fullShare tyPtr (home body.locals bs 8) 0 (vptr (h .block) p))) (sym (place-is 56 (h .offset) i)) refl $
         move ! (20 ∷ []) $ split ! $ fsplit ! $ move ! (1 ∷ []) $ fsplit ! $ move ! (1 ∷ 3 ∷ []) $
         looks-slice ! tt Rec (Is Rec) (shows 𝓤 H A Rec) vals (flow 𝓤 H A W .tells) (copies 𝓤 H A W) ys (h .block) (h .offset) (λ q. elem-out ! Rec (Is Rec) (shows 𝓤 H A Rec) vals (flow 𝓤 H A W .tells) q ys i none (h .block) (h .offset) l (λ is.
@@ -109,15 +109,15 @@ module _ {M : Type 1} (𝓤 : URA M) (H : Heap 𝓤) (A : Atoms 𝓤) (W : Given
 
     past : T (not (ltb i (h .count))) → Sq W (At Tested) (runs (𝓣 .C) (𝓣 .Λ) (env 𝓤 H A body.locals bs) past-arm Then)
     past z =
-        assigns-last ! (of-opd ! (load ! (from ! (stop !)) (look ! 6 refl))) (from ! (stop !)) (init ! 12 refl (flow 𝓤 H A W .typed d (good .1 .0) .0)) $
+        assigns-last ! (of-opd ! (held ! refl)) (from ! (stop !)) (init ! 12 refl (flow 𝓤 H A W .typed d (good .1 .0) .0)) $
         exec ! (𝓣 .C) (𝓣 .Λ) (env 𝓤 H A body.locals bs) body.t-4 Q $
         finishes d (good .1 .0) (past-list elem d (ltb i (length ys)) (subst (λ (n : ℕ). T (not (ltb i n))) (sym len) z))
 
     starts : Sq W (At []) (runs (𝓣 .C) (𝓣 .Λ) (env 𝓤 H A body.locals bs) body.t-1 Q)
     starts =
-        assigns ! (of-opd ! (load ! (from ! (fld ! refl (stop !))) (look-in ! 2 (sub ! 1 refl (whole !))))) (from ! (stop !)) (init ! 8 refl (tt, record { fits = room .0 })) $
-        assigns ! (bin ! (load ! (from ! (stop !)) (look ! 4 refl)) (load ! (from ! (stop !)) (look ! 8 refl)) tt) (from ! (stop !)) (init ! 10 refl (tt, tt)) $
-        first ! $ branches ! (load ! (from ! (stop !)) (look ! 10 refl)) (λ z. within z (subst (λ (n : ℕ). i < n) (sym len) (ltb→lt i (h .count) z))) past
+        sets ! (of-opd ! (held-in ! refl (sub ! 1 refl (whole !)))) refl (tt, record { fits = room .0 }) $
+        sets ! (bin ! (held ! refl) (held ! refl) tt) refl (tt, tt) $
+        first ! $ branches ! (held ! refl) (λ z. within z (subst (λ (n : ℕ). i < n) (sym len) (ltb→lt i (h .count) z))) past
 
 record-at-meets : {M : Type 1} (𝓤 : URA M) (H : Heap 𝓤) (A : Atoms 𝓤) (W : Given 𝓤 H A) (𝓣 : Tables 𝓤 H) → Triple 𝓤 (WpFn 𝓤 H (𝓣 .C) (𝓣 .Λ) code.function) (shown 𝓤 H A Rec (RecordAt 𝓤 H A W))
 record-at-meets 𝓤 H A W 𝓣 = meets 𝓤 H A W Rec (RecordAt 𝓤 H A W) 𝓣 code.function (λ h ys len room a good.

@@ -16,8 +16,8 @@ use prog.Wp.{Heap, WpFn, Tables}
 use ghost.Atoms.{Atoms}
 use contract.Running.{givenOf, tables, tablesOf}
 use types.Kit.{Given, Item, Sq, Post, runs, atRet, ‵, raw, _$_, !, move, drop, split, join, rewrite, fsplit, fjoin}
-use types.Run.{look, store-raw, init, forget, stop, hop, fld, from, load, lit, unit-lit, of-opd, bin, skips, branches, assigns, assigns-last, exec, returns, enter, params1, pass1, pass0}
-use types.Part.{whole, sub, look-in}
+use types.Run.{look, store-raw, init, forget, stop, hop, from, load, lit, unit-lit, of-opd, bin, skips, branches, assigns-last, exec, returns, enter, params1, pass1, pass0}
+use types.Part.{whole, sub}
 use denote.Shadow.{pureI}
 use denote.Laws.{Is, shows}
 use denote.Slice.{sliceVal, Room, at-slice}
@@ -32,7 +32,7 @@ use Rattle.lent.proofs.Rows.{Rec, word, truth, flow, offset-fits}
 use Rattle.lent.proofs.Callee.{Values, Good, lending}
 use Rattle.lent.proofs.Cited.{ReplaceIf}
 use Rattle.lent.proofs.Loans.{Handle, slice-of, ref-at, Mut}
-use Rattle.lent.proofs.Frames.{Homes, home, Cell, empty, full, env, frame, allocates, leaves, goes-on, span}
+use Rattle.lent.proofs.Frames.{Homes, home, Cell, empty, full, env, frame, allocates, leaves, goes-on, span, held, held-in, sets}
 use Rattle.lent.proofs.Walked.Lent.{Ends, ends, meets}
 use Rattle.lent.proofs.replace_if.Key.{name as #lent·replace-if}
 use Rattle.lent.proofs.replace_if as replace-if
@@ -82,20 +82,20 @@ module _ {M : Type 1} (𝓤 : URA M) (H : Heap 𝓤) (A : Atoms 𝓤) (W : Given
     -- what follows the tests
     finishes : (l : List Record) → length l ≡ h .count → l ≡ cond (go && ltb i (length ys)) zs ys → Sq W (At l (full (vbool go) ∷ [])) (runs (𝓣 .C) (𝓣 .Λ) (env 𝓤 H A body.locals bs) body.t-3 Q)
     finishes l el e =
-        assigns ! (of-opd ! (unit-lit !)) (from ! (stop !)) (init ! 0 refl (tt, tt)) $
+        sets ! (of-opd ! (unit-lit !)) refl (tt, tt) $
         returns ! (look ! 0 refl) $ leaves ! body.locals bs (full vunit ∷ Passed ++ (full (vbool go) ∷ [])) (ends 𝓤 H A W Rec (ReplaceIf 𝓤 H A W) ! h ys a tt l refl el e)
 
     starts : Sq W (At ys []) (runs (𝓣 .C) (𝓣 .Λ) (env 𝓤 H A body.locals bs) body.t-1 Q)
     starts =
-        assigns ! (of-opd ! (load ! (from ! (stop !)) (look ! 4 refl))) (from ! (stop !)) (init ! 10 refl (tt, tt)) $
-        goes-on ! (load ! (from ! (stop !)) (look ! 10 refl))
-        (λ y. assigns ! (of-opd ! (load ! (from ! (fld ! refl (stop !))) (look-in ! 2 (sub ! 1 refl (whole !))))) (from ! (stop !)) (init ! 12 refl (tt, record { fits = room .0 })) $
-        assigns ! (bin ! (load ! (from ! (stop !)) (look ! 6 refl)) (load ! (from ! (stop !)) (look ! 12 refl)) tt) (from ! (stop !)) (init ! 14 refl (tt, tt)) $
-        branches ! (load ! (from ! (stop !)) (look ! 14 refl))
+        sets ! (of-opd ! (held ! refl)) refl (tt, tt) $
+        goes-on ! (held ! refl)
+        (λ y. sets ! (of-opd ! (held-in ! refl (sub ! 1 refl (whole !)))) refl (tt, record { fits = room .0 }) $
+        sets ! (bin ! (held ! refl) (held ! refl) tt) refl (tt, tt) $
+        branches ! (held ! refl)
         (λ z. let fits : WT (vint w64 (i * 56)) = record { fits = offset-fits i (h .count) (ltb→lt i (h .count) z) room } in
         let l : i < length ys = subst (λ (n : ℕ). i < n) (sym len) (ltb→lt i (h .count) z) in
-        assigns ! (bin ! (load ! (from ! (stop !)) (look ! 6 refl)) (lit ! tt) fits) (from ! (stop !)) (init ! 16 refl (tt, fits)) $
-        assigns ! (bin ! (load ! (from ! (fld ! refl (stop !))) (look-in ! 2 (sub ! 0 refl (whole !)))) (load ! (from ! (stop !)) (look ! 16 refl)) tt) (from ! (stop !)) (init ! 18 refl (tt, tt)) $
+        sets ! (bin ! (held ! refl) (lit ! tt) fits) refl (tt, fits) $
+        sets ! (bin ! (held-in ! refl (sub ! 0 refl (whole !))) (held ! refl) tt) refl (tt, tt) $
         rewrite ! 18 (λ (p : ℕ). ‵ (fat fullShare tyPtr (home body.locals bs 9) 0 (vptr (h .block) p))) (sym (place-is 56 (h .offset) i)) refl $
         move ! (20 ∷ []) $ split ! $ fsplit ! $ drop ! $ fsplit ! $ opens-slice ! tt Rec ys (h .block) (h .offset) $ elem-out ! Rec (Is Rec) (shows 𝓤 H A Rec) vals (flow 𝓤 H A W .tells) fullShare ys i none (h .block) (h .offset) l (λ _.
         -- [list[i]; what it owns; the others; the open borrow; obs; auth; local k at 6 + 2 · k]
