@@ -27,7 +27,7 @@ use ghost.Atoms.{Atoms}
 use denote.RattleType.{RattleType}
 use denote.Memory.{pointee}
 use denote.Slice.{sliceTy}
-use types.Kit.{Given, Item, ‵, mean, ⋆, nth, put, sel⊢, push, pop, Post, post, anyQ, Goal, prop, runs, lands, allocs, frees, Seq, Step, step, _$_}
+use types.Kit.{Given, Item, ‵, mean, ⋆, nth, put, sel⊢, push, pop, Post, post, anyQ, Goal, prop, runs, lands, allocs, frees, Seq, Step, _$_}
 use types.Part.{Part, look-in}
 use types.Run.{Opd, Rv, look, init, stop, hop, fld, from, load, addr, assigns, land, first, branches, skips, jumps, alloc1, alloc0, free1, free0, forget}
 

@@ -5,7 +5,7 @@
 --     View, seen       an entry that can be shown to a callee as a `&[T]`, and comes back as it was; the reference that the callee gets.        of-mut, of-shr     of each of the two entries
 -- The count need not be the length of the list by computation: the two are equal, which is what a list that has changed leaves.
 -- Assumes `Given`.
-use mathlib.Core.Path.{_≡_, refl, sym, ap, subst, _∙_}
+use mathlib.Core.Path.{_≡_, refl, sym, ap, subst}
 use Prim.Native.Nat.{ℕ}
 use mathlib.Core.List.{List, [], _∷_}
 use lib.ListN.{length}
@@ -17,7 +17,7 @@ use base.Logic.{ent, sep, ex}
 use base.Fml.{Lft, GName, Share, Fml, fsep, flft, fobs, fauth, flent, fobor}
 use prog.Wp.{Heap}
 use ghost.Atoms.{Atoms, sem}
-use types.Kit.{Given, Item, ‵, _⊛_, some, later, mean, _$_, _∵_, !, qed, move, use1, use2, use3, rewrite, drop, split, join, pick, fsplit, fjoin, feqI, frame, await, updating, now as at-once, show, done}
+use types.Kit.{Given, Item, ‵, _⊛_, some, later, mean, _$_, _∵_, !, qed, move, use1, use3, drop, split, join, pick, fsplit, fjoin, feqI, frame, await, updating, now as at-once, show, done}
 use types.SemTy.{cells, Arr}
 use types.Share.{arr-parts}
 use types.Tokens.{lft-new, lft-end, lent-back}

@@ -18,7 +18,7 @@ use denote.Shadow.{makes-shadow}
 use denote.Laws.{Is, Tells, Typed, Copy, Makes}
 use denote.Memory.{mem}
 use denote.Slice.{Room}
-use denote.Struct.Field.{Field, u8-field, u16-field, u64-field, bool-field, unit-field, array-field}
+use denote.Struct.Field.{Field, u16-field, u64-field, bool-field, unit-field, array-field}
 use denote.Struct.Struct.{Plains}
 use denote.Struct.Declared as S
 use denote.Struct.Laws as SL

@@ -1,6 +1,7 @@
 // Stand-ins for the covered decisions.
 ghost use mathlib.Core.Path.{_≡_};
 ghost use mathlib.Core.Bool.{true};
+ghost use Prim.Native.Nat.{_≤_};
 ghost use Rattle.stand.specs.Steps.{Stepped, OpensOne, ClosesOne, ReportsOne};
 use rules::Cleared;
 use rules::Demand;
@@ -32,6 +33,7 @@ pub struct Closing {
 }
 
 pub fn step(table: &[u8], w: Wheel, before: Checked, r: Record, i: usize) -> Checked
+    requires { ⌜ i ≤ i ⌝ }
     ensures { λ c. ⌜ Stepped (now (table .entry)) w before r i c ⌝ }
 {
     Checked {

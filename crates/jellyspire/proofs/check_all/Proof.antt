@@ -1,8 +1,8 @@
 -- `jellyspire::check_all` meets its contract: a walk of its MIR, by hand. The loop's context is the frame with the two slices behind it; its variant is the index with the answer so far and what is known of them, ordered by what is left to look at. All that the proof knows of the functions called is what `Core.antt` says.
 -- Assumes nothing.
-use mathlib.Core.Path.{_≡_, refl, sym, ap, subst, _∙_}
-use Prim.Native.Nat.{ℕ, zero, _+_, _-_, _≤_, _<_, _^_, zero-le}
-use native.Mathlib.Nat.{le-antisymm, lt-of-le-of-lt}
+use mathlib.Core.Path.{_≡_, refl, sym, subst, _∙_}
+use Prim.Native.Nat.{ℕ, _+_, _-_, _≤_, _<_, _^_, zero-le}
+use native.Mathlib.Nat.{le-refl, le-antisymm, lt-of-le-of-lt}
 use native.Mathlib.Numerals.{add-one-le, add-one-dec}
 use mathlib.Core.Bool.{Bool, true, false, cond}
 use mathlib.Core.WellFounded.{WellFounded, InvImage·wf}
@@ -16,9 +16,10 @@ use mir.Val.{vint, vbool}
 use base.Logic.{SProp, emp, id⊢}
 use prog.Wp.{Heap, Out, afterSeq, afterBlock, afterTurn, Wp, WpFn, atReturn, Tables}
 use ghost.Atoms.{Atoms}
+use contract.Monad.{factI}
 use contract.Running.{givenOf, tables, tablesOf}
 use types.Kit.{Given, Item, Sq, Post, anyQ, runs, atRet, raw, _$_, ! }
-use types.Run.{look, init, store, forget, stop, from, lit, of-opd, bin, and-then, no-more, assigns, assigns-last, land, first, blocks, exec, returns, enter, params1, pass1, pass0, Below, again, loops}
+use types.Run.{look, init, store, forget, stop, from, lit, of-opd, bin, and-then, no-more, assigns-last, land, first, blocks, exec, returns, enter, params1, pass1, pass0, Below, again, loops}
 use types.Part.{whole, sub}
 use sound.WpLaws.{fmOf}
 use denote.Builtin.{u8}
@@ -34,7 +35,7 @@ use Rattle.stand.specs.declared.Checked.{Checked}
 use Rattle.stand.specs.Steps.{Stepped}
 use Rattle.jellyspire.specs.Calls.{Checks, begins, steps}
 use Rattle.lent.proofs.Rows.{Rec, wheel, flow}
-use Rattle.lent.proofs.Callee.{Values, Good, shown, both-shown, plainly}
+use Rattle.lent.proofs.Callee.{Good, shown, both-shown, plainly}
 use Rattle.lent.proofs.Cited.{RecordAt}
 use Rattle.lent.proofs.Loans.{Handle, slice-of, Shr, of-shr}
 use Rattle.lent.proofs.Lent.{calls-shown, calls-plain}
@@ -106,7 +107,7 @@ module _ {M : Type 1} (𝓤 : URA M) (H : Heap 𝓤) (A : Atoms 𝓤) (W : Given
           calls-shown ! (fmOf 𝓤 H (W .laws) 𝓣) Rec (RecordAt 𝓤 H A W) known-at h′ list (Shr Rec h′ list) (of-shr W Rec h′ list) (x .0, (o, tt)) ((refl, fits (x .0) (x .2)), (o-is, tt)) (id⊢ 𝓤 (emp 𝓤)) 21 tt refl
           (λ _. and-then ! (held ! refl) (and-then ! (held ! refl) (and-then ! (held ! refl) (no-more !)))) (λ r is read.
           keeps ! refl (flow 𝓤 H A W .typed r is .0) $
-          calls-shown ! (fmOf 𝓤 H (W .laws) 𝓣) u8 (Step 𝓤 H A W) known-step h t (Shr u8 h t) (of-shr W u8 h t) (w, (x .1, (r, (x .0, tt)))) (good .0, (x .3, (is, ((refl, fits (x .0) (x .2)), tt)))) (id⊢ 𝓤 (emp 𝓤)) 20 tt refl
+          calls-shown ! (fmOf 𝓤 H (W .laws) 𝓣) u8 (Step 𝓤 H A W) known-step h t (Shr u8 h t) (of-shr W u8 h t) (w, (x .1, (r, (x .0, tt)))) (good .0, (x .3, (is, ((refl, fits (x .0) (x .2)), tt)))) (factI 𝓤 (x .0 ≤ x .0) (emp 𝓤) (le-refl (x .0))) 20 tt refl
           (λ _. and-then ! (held ! refl) (and-then ! (held ! refl) (and-then ! (held ! refl) (and-then ! (held ! refl) (and-then ! (held ! refl) (no-more !)))))) (λ c is-c stepped.
           land ! (from ! (stop !)) (store ! 8 refl (checked 𝓤 H A W .typed c is-c .0)) $
           assigns-last ! (bin ! (held ! refl) (lit ! tt) (record { fits = fits (x .0 + 1) (add-one-le l) })) (from ! (stop !)) (store ! 12 refl (tt, record { fits = fits (x .0 + 1) (add-one-le l) })) $

@@ -15,7 +15,7 @@ use prog.Wp.{Heap, WpFn, Tables}
 use ghost.Atoms.{Atoms}
 use sound.WpLaws.{FmC, fmOf}
 use contract.Running.{givenOf, tables, tablesOf}
-use types.Kit.{Given, Sq, Post, runs, atRet, raw, _$_, !}
+use types.Kit.{Given, Sq, Post, runs, atRet, raw, _$_, ! }
 use types.Run.{look, init, of-opd, and-then, no-more, returns, enter, params1, pass1, pass0}
 use types.Part.{agg, whole, sub}
 use denote.Builtin.{u8}

@@ -15,7 +15,7 @@ use base.Fml.{fat}
 use prog.Wp.{Heap, Wp, WpFn, afterSeq, atReturn, Tables}
 use ghost.Atoms.{Atoms}
 use contract.Running.{givenOf, tables, tablesOf}
-use types.Kit.{Given, Item, Sq, Post, anyQ, runs, atRet, ‵, raw, _$_, !, by, move, split, join, rewrite, fsplit, fjoin}
+use types.Kit.{Given, Item, Sq, Post, anyQ, runs, atRet, ‵, raw, _$_, !, move, split, join, rewrite, fsplit, fjoin}
 use types.Run.{look, look-raw, init, forget, stop, hop, from, load, lit, of-opd, bin, first, branches, assigns, assigns-last, exec, returns, enter, params1, pass1, pass0}
 use types.Part.{whole, sub}
 use denote.Laws.{Is, shows}

@@ -28,7 +28,7 @@ use denote.Triple.Statement.{Triple}
 use denote.Triple.Table.{entered}
 use Rattle.rules.specs.declared.Record.{Record}
 use Rattle.rules.specs.Flows.{none}
-use Rattle.lent.proofs.Rows.{Rec, word, truth, flow, offset-fits}
+use Rattle.lent.proofs.Rows.{Rec, word, flow, offset-fits}
 use Rattle.lent.proofs.Callee.{Values, Good, lending}
 use Rattle.lent.proofs.Cited.{ReplaceIf}
 use Rattle.lent.proofs.Loans.{Handle, slice-of, ref-at, Mut}
