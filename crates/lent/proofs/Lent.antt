@@ -96,7 +96,10 @@ module _ {M : Type 1} (𝓤 : URA M) (H : Heap 𝓤) (A : Atoms 𝓤) (W : Given
   abbrev to-lending : lending 𝓤 H A R c .Ghost
   to-lending = (((h .lft, tt), (h .share, tt), tt, (ref-at R h ys, args 1 (c .takes) (h .lft, tt) a), (slice-of h ∷ [], valss 1 (c .takes) (h .lft, tt) a)), tt)
 
-  asks-lending : Good (c .takes) a → ent 𝓤 (emp 𝓤) (c .needs ys a) → ent 𝓤 (mean 𝓤 H A (Mut R h ys)) (lending 𝓤 H A R c .pre to-lending)
+  abbrev asked-lending : SProp 𝓤
+  asked-lending = lending 𝓤 H A R c .pre to-lending
+
+  asks-lending : Good (c .takes) a → ent 𝓤 (emp 𝓤) (c .needs ys a) → ent 𝓤 (mean 𝓤 H A (Mut R h ys)) asked-lending
   asks-lending good needs =
       qed W (Mut R h ys ∷ []) ∵ split ! $ use0 W (‵ (owns (typesAt {n = 1} (slots (c .takes)) (h .lft, tt)) (args 1 (c .takes) (h .lft, tt) a) (valss 1 (c .takes) (h .lft, tt) a))) (owned 1 (c .takes) (h .lft, tt) a good) $
       move ! (1 ∷ 0 ∷ []) $ fjoin ! $ nothing ! $ move ! (2 ∷ 0 ∷ []) $ join ! $ join ! $
@@ -125,12 +128,10 @@ module _ {M : Type 1} {𝓤 : URA M} {H : Heap 𝓤} {A : Atoms 𝓤} {K : Type 
       → Seq K W Γ (runs C Λ E (seq (call f xs d) rest) p)
   calls-lent t fm R c known h ys len a good needs i within is os k =
       takes-out t i (Mut R h ys) is $ use1 W (later (some (λ (k : Key 𝓤 H A W R h ys). Loan 𝓤 H A W R h ys (h .count) k))) (lends 𝓤 H A W R h ys len) $ await t tt $ pick t (λ (key : Key 𝓤 H A W R h ys). split t $
-      let h′ : Handle = lent-for h (key .0) (key .1) in
-      let pre : SProp 𝓤 = lending 𝓤 H A R c .pre (to-lending 𝓤 H A W R c h′ ys a) in
-      use1 W (raw pre) (asks-lending 𝓤 H A W R c h′ ys a good needs) $
-      calls-at t fm (lending 𝓤 H A R c) known (to-lending 𝓤 H A W R c h′ ys a)
-      (reads-at Γ i within (raw pre) (‵ (Lent R h ys (key .0) (key .1))) (subst (λ (us : List Val). Opds K W (put 𝓤 H A i (raw pre ⊛ ‵ (Lent R h ys (key .0) (key .1))) Γ) E xs (slice-of h ∷ us)) (sym (flat-is 1 (c .takes) (h′ .lft, tt) a)) (os _))) (λ u.
-      hears-lending 𝓤 H A W R c h′ ys a t tt u (λ r zs good-r said same told.
+      use1 W (raw (asked-lending 𝓤 H A W R c (lent-for h (key .0) (key .1)) ys a)) (asks-lending 𝓤 H A W R c (lent-for h (key .0) (key .1)) ys a good needs) $
+      calls-at t fm (lending 𝓤 H A R c) known (to-lending 𝓤 H A W R c (lent-for h (key .0) (key .1)) ys a)
+      (reads-at Γ i within (raw (asked-lending 𝓤 H A W R c (lent-for h (key .0) (key .1)) ys a)) (‵ (Lent R h ys (key .0) (key .1))) (subst (λ (us : List Val). Opds K W (put 𝓤 H A i (raw (asked-lending 𝓤 H A W R c (lent-for h (key .0) (key .1)) ys a) ⊛ ‵ (Lent R h ys (key .0) (key .1))) Γ) E xs (slice-of h ∷ us)) (sym (flat-is 1 (c .takes) (key .0 ∷ [], tt) a)) (os _))) (λ u.
+      hears-lending 𝓤 H A W R c (lent-for h (key .0) (key .1)) ys a t tt u (λ r zs good-r said same told.
       use3 W (later (Mut R h zs)) (comes-back 𝓤 H A W R h ys len key zs same) $ await t tt $ puts-back t Γ i (Mut R h zs) $
       subst (λ (v : Val). Seq K W (put 𝓤 H A i (Mut R h zs) Γ) (lands C Λ E d v rest p)) (sym told) (k r zs good-r said (same ∙ len)))))
 
@@ -139,7 +140,10 @@ module _ {M : Type 1} (𝓤 : URA M) (H : Heap 𝓤) (A : Atoms 𝓤) (W : Given
   abbrev to-shown : shown 𝓤 H A R c .Ghost
   to-shown = (((h .lft, tt), (h .share, tt), tt, (ref-at R h ys, args 1 (c .takes) (h .lft, tt) a), (slice-of h ∷ [], valss 1 (c .takes) (h .lft, tt) a)), tt)
 
-  asks-shown : Good (c .takes) a → ent 𝓤 (emp 𝓤) (c .needs ys a) → ent 𝓤 (mean 𝓤 H A (Shr R h ys)) (shown 𝓤 H A R c .pre to-shown)
+  abbrev asked-shown : SProp 𝓤
+  asked-shown = shown 𝓤 H A R c .pre to-shown
+
+  asks-shown : Good (c .takes) a → ent 𝓤 (emp 𝓤) (c .needs ys a) → ent 𝓤 (mean 𝓤 H A (Shr R h ys)) asked-shown
   asks-shown good needs =
       qed W (Shr R h ys ∷ []) ∵ split ! $ use0 W (‵ (owns (typesAt {n = 1} (slots (c .takes)) (h .lft, tt)) (args 1 (c .takes) (h .lft, tt) a) (valss 1 (c .takes) (h .lft, tt) a))) (owned 1 (c .takes) (h .lft, tt) a good) $
       move ! (1 ∷ 0 ∷ []) $ fjoin ! $ nothing ! $ move ! (2 ∷ 0 ∷ []) $ join ! $ join ! $
@@ -163,7 +167,10 @@ module _ {M : Type 1} (𝓤 : URA M) (H : Heap 𝓤) (A : Atoms 𝓤) (W : Given
   abbrev to-both : both-shown 𝓤 H A R S c .Ghost
   to-both = (((h .lft, (h′ .lft, tt)), (h .share, (h′ .share, tt)), tt, (ref-at R h ys, (ref-at S h′ zs, args 2 (c .takes) (h .lft, (h′ .lft, tt)) a)), (slice-of h ∷ [], (slice-of h′ ∷ [], valss 2 (c .takes) (h .lft, (h′ .lft, tt)) a))), tt)
 
-  asks-both : Good (c .takes) a → ent 𝓤 (emp 𝓤) (c .needs ys zs a) → ent 𝓤 (sep 𝓤 (mean 𝓤 H A (Shr R h ys)) (mean 𝓤 H A (Shr S h′ zs))) (both-shown 𝓤 H A R S c .pre to-both)
+  abbrev asked-both : SProp 𝓤
+  asked-both = both-shown 𝓤 H A R S c .pre to-both
+
+  asks-both : Good (c .takes) a → ent 𝓤 (emp 𝓤) (c .needs ys zs a) → ent 𝓤 (sep 𝓤 (mean 𝓤 H A (Shr R h ys)) (mean 𝓤 H A (Shr S h′ zs))) asked-both
   asks-both good needs =
       qed W (Shr R h ys ∷ Shr S h′ zs ∷ []) ∵ split ! $ move ! (2 ∷ []) $ split ! $
       -- [the second slice; its token; the first; its token]
@@ -189,7 +196,10 @@ module _ {M : Type 1} (𝓤 : URA M) (H : Heap 𝓤) (A : Atoms 𝓤) (W : Given
   abbrev to-plainly : plainly 𝓤 H A c .Ghost
   to-plainly = ((tt, tt, tt, args 0 (c .takes) tt a, valss 0 (c .takes) tt a), tt)
 
-  asks-plainly : Good (c .takes) a → ent 𝓤 (emp 𝓤) (c .needs a) → ent 𝓤 (emp 𝓤) (plainly 𝓤 H A c .pre to-plainly)
+  abbrev asked-plainly : SProp 𝓤
+  asked-plainly = plainly 𝓤 H A c .pre to-plainly
+
+  asks-plainly : Good (c .takes) a → ent 𝓤 (emp 𝓤) (c .needs a) → ent 𝓤 (emp 𝓤) asked-plainly
   asks-plainly good needs =
       qed W [] ∵ use0 W (‵ (owns (typesAt {n = 0} (slots (c .takes)) tt) (args 0 (c .takes) tt a) (valss 0 (c .takes) tt a))) (owned 0 (c .takes) tt a good) $ nothing ! $ join ! $
       use0 W (raw (c .needs (values 0 (c .takes) tt (args 0 (c .takes) tt a)))) (subst (λ (x : Values (c .takes)). ent 𝓤 (emp 𝓤) (c .needs x)) (sym (round 0 (c .takes) tt a)) needs) $
@@ -215,10 +225,9 @@ module _ {M : Type 1} {𝓤 : URA M} {H : Heap 𝓤} {A : Atoms 𝓤} {K : Type 
       → Seq K W Γ (runs C Λ E (seq (call f xs d) rest) p)
   calls-shown t fm R c known h ys entry view a good needs i within is os k =
       takes-out t i entry is $ use1 W (later (some (λ (key : view .At). Shr R (seen view key) ys ⊛ view .kept key))) (view .out) $ await t tt $ pick t (λ (key : view .At). split t $
-      let pre : SProp 𝓤 = shown 𝓤 H A R c .pre (to-shown 𝓤 H A W R c (seen view key) ys a) in
-      use1 W (raw pre) (asks-shown 𝓤 H A W R c (seen view key) ys a good needs) $
+      use1 W (raw (asked-shown 𝓤 H A W R c (seen view key) ys a)) (asks-shown 𝓤 H A W R c (seen view key) ys a good needs) $
       calls-at t fm (shown 𝓤 H A R c) known (to-shown 𝓤 H A W R c (seen view key) ys a)
-      (reads-at Γ i within (raw pre) (view .kept key) (subst (λ (us : List Val). Opds K W (put 𝓤 H A i (raw pre ⊛ view .kept key) Γ) E xs (slice-of h ∷ us)) (sym (flat-is 1 (c .takes) (view .lft key, tt) a)) (os _))) (λ u.
+      (reads-at Γ i within (raw (asked-shown 𝓤 H A W R c (seen view key) ys a)) (view .kept key) (subst (λ (us : List Val). Opds K W (put 𝓤 H A i (raw (asked-shown 𝓤 H A W R c (seen view key) ys a) ⊛ view .kept key) Γ) E xs (slice-of h ∷ us)) (sym (flat-is 1 (c .takes) (view .lft key, tt) a)) (os _))) (λ u.
       hears-shown 𝓤 H A W R c (seen view key) ys a t tt u (λ r good-r said told.
       use2 W (later entry) (view .back key) $ await t tt $ restores t Γ i entry is $
       subst (λ (v : Val). Seq K W Γ (lands C Λ E d v rest p)) (sym told) (k r good-r said))))
@@ -233,10 +242,9 @@ module _ {M : Type 1} {𝓤 : URA M} {H : Heap 𝓤} {A : Atoms 𝓤} {K : Type 
       takes-out t i entry is $ takes-out t (suc i) entry′ is′ $
       use1 W (later (some (λ (key : view′ .At). Shr S (seen view′ key) zs ⊛ view′ .kept key))) (view′ .out) $ await t tt $ pick t (λ (key′ : view′ .At). split t $ move t (2 ∷ []) $
       use1 W (later (some (λ (key : view .At). Shr R (seen view key) ys ⊛ view .kept key))) (view .out) $ await t tt $ pick t (λ (key : view .At). split t $ move t (0 ∷ 2 ∷ 1 ∷ 3 ∷ []) $
-      let pre : SProp 𝓤 = both-shown 𝓤 H A R S c .pre (to-both 𝓤 H A W R S c (seen view key) (seen view′ key′) ys zs a) in
-      use2 W (raw pre) (asks-both 𝓤 H A W R S c (seen view key) (seen view′ key′) ys zs a good needs) $ move t (1 ∷ 2 ∷ []) $ join t $ move t (1 ∷ 0 ∷ []) $
+      use2 W (raw (asked-both 𝓤 H A W R S c (seen view key) (seen view′ key′) ys zs a)) (asks-both 𝓤 H A W R S c (seen view key) (seen view′ key′) ys zs a good needs) $ move t (1 ∷ 2 ∷ []) $ join t $ move t (1 ∷ 0 ∷ []) $
       calls-at t fm (both-shown 𝓤 H A R S c) known (to-both 𝓤 H A W R S c (seen view key) (seen view′ key′) ys zs a)
-      (reads-at (del 𝓤 H A i Γ) i within (raw pre) (view .kept key ⊛ view′ .kept key′) (subst (λ (us : List Val). Opds K W (put 𝓤 H A i (raw pre ⊛ (view .kept key ⊛ view′ .kept key′)) (del 𝓤 H A i Γ)) E xs (slice-of h ∷ slice-of h′ ∷ us)) (sym (flat-is 2 (c .takes) (view .lft key, (view′ .lft key′, tt)) a)) (os _))) (λ u.
+      (reads-at (del 𝓤 H A i Γ) i within (raw (asked-both 𝓤 H A W R S c (seen view key) (seen view′ key′) ys zs a)) (view .kept key ⊛ view′ .kept key′) (subst (λ (us : List Val). Opds K W (put 𝓤 H A i (raw (asked-both 𝓤 H A W R S c (seen view key) (seen view′ key′) ys zs a) ⊛ (view .kept key ⊛ view′ .kept key′)) (del 𝓤 H A i Γ)) E xs (slice-of h ∷ slice-of h′ ∷ us)) (sym (flat-is 2 (c .takes) (view .lft key, (view′ .lft key′, tt)) a)) (os _))) (λ u.
       hears-both 𝓤 H A W R S c (seen view key) (seen view′ key′) ys zs a t tt u (λ r good-r said told. move t (2 ∷ []) $ split t $ move t (2 ∷ 0 ∷ []) $
       use2 W (later entry) (view .back key) $ await t tt $ move t (2 ∷ 1 ∷ []) $ use2 W (later entry′) (view′ .back key′) $ await t tt $
       restores t (entry ∷ del 𝓤 H A i Γ) (suc i) entry′ is′ $ restores t Γ i entry is $
@@ -247,7 +255,7 @@ module _ {M : Type 1} {𝓤 : URA M} {H : Heap 𝓤} {A : Atoms 𝓤} {K : Type 
       → ((r : c .gives .row .Denot) → Is (c .gives .row) r (c .gives .val r ∷ []) → c .holds a r → Seq K W Γ (lands C Λ E d (c .gives .val r) rest p))
       → Seq K W Γ (runs C Λ E (seq (call f xs d) rest) p)
   calls-plain t fm c known a good needs os k =
-      use0 W (raw (plainly 𝓤 H A c .pre (to-plainly 𝓤 H A W c a))) (asks-plainly 𝓤 H A W c a good needs) $
-      calls-at t fm (plainly 𝓤 H A c) known (to-plainly 𝓤 H A W c a) (reads-last Γ (raw (plainly 𝓤 H A c .pre (to-plainly 𝓤 H A W c a))) (subst (λ (us : List Val). Opds K W (Γ ++ (raw (plainly 𝓤 H A c .pre (to-plainly 𝓤 H A W c a)) ∷ [])) E xs us) (sym (flat-is 0 (c .takes) tt a)) (os _))) (λ u.
+      use0 W (raw (asked-plainly 𝓤 H A W c a)) (asks-plainly 𝓤 H A W c a good needs) $
+      calls-at t fm (plainly 𝓤 H A c) known (to-plainly 𝓤 H A W c a) (reads-last Γ (raw (asked-plainly 𝓤 H A W c a)) (subst (λ (us : List Val). Opds K W (Γ ++ (raw (asked-plainly 𝓤 H A W c a) ∷ [])) E xs us) (sym (flat-is 0 (c .takes) tt a)) (os _))) (λ u.
       hears-plainly 𝓤 H A W c a t tt u (λ r good-r said told.
       subst (λ (v : Val). Seq K W Γ (lands C Λ E d v rest p)) (sym told) (k r good-r said)))
