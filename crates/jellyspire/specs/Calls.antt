@@ -1,10 +1,9 @@
 -- What the walked functions promise over the stand-ins.
 use mathlib.Core.Path.{_≡_}
-use mathlib.Core.Bool.{true, _&&_, cond}
+use mathlib.Core.Bool.{true}
 use mathlib.Core.List.{List}
 use Prim.Native.Nat.{ℕ, _+_}
-use lib.ListN.{length, set}
-use lib.Dec.{ltb}
+use lib.ListN.{length}
 use Rattle.rules.specs.Flows.{flow}
 use Rattle.rules.specs.declared.Wheel.{Wheel}
 use Rattle.rules.specs.declared.Demand.{Demand}
@@ -12,6 +11,7 @@ use Rattle.rules.specs.declared.Record.{Record}
 use Rattle.rules.specs.declared.Opened.{Opened}
 use Rattle.rules.specs.declared.Cleared.{Cleared}
 use Rattle.rules.specs.declared.Reported.{Reported}
+use Rattle.lent.specs.Lists.{recordAt, replacedIf}
 use Rattle.stand.specs.declared.Checked.{Checked}
 use Rattle.stand.specs.declared.Decision.{Decision}
 use Rattle.stand.specs.declared.Closing.{Closing}
@@ -28,10 +28,10 @@ pub record OpensAll (t : List ℕ) (list : List Record) (w : Wheel) (f : ℕ) (p
   pub place : ℕ
   pub otherwise : Record
   pub old : Record
-  pub found : old ≡ cond (ltb place (length list)) (flow list place) otherwise
+  pub found : old ≡ recordAt list place otherwise
   pub made : Decision
   pub opens : OpensOne t w (length list) checked old f path m d t′ made
-  pub kept : list′ ≡ cond (made .go && ltb (made .at) (length list)) (set list (made .at) (made .next)) list
+  pub kept : list′ ≡ replacedIf list (made .go) (made .at) (made .next)
   pub answer : r ≡ made .answer
 
 pub record ClosesAll (t : List ℕ) (list : List Record) (w : Wheel) (f : ℕ) (r : Cleared) (t′ : List ℕ) (list′ : List Record) : Type 0 where
@@ -40,10 +40,10 @@ pub record ClosesAll (t : List ℕ) (list : List Record) (w : Wheel) (f : ℕ) (
   pub place : ℕ
   pub otherwise : Record
   pub old : Record
-  pub found : old ≡ cond (ltb place (length list)) (flow list place) otherwise
+  pub found : old ≡ recordAt list place otherwise
   pub made : Closing
   pub closes : ClosesOne t w (length list) checked old f t′ made
-  pub kept : list′ ≡ cond (made .go && ltb (made .at) (length list)) (set list (made .at) (made .next)) list
+  pub kept : list′ ≡ replacedIf list (made .go) (made .at) (made .next)
   pub answer : r ≡ made .answer
 
 pub record ReportsAll (t : List ℕ) (list : List Record) (w : Wheel) (r : Reported) : Type 0 where

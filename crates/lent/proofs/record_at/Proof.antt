@@ -27,6 +27,7 @@ use denote.Triple.Table.{entered}
 use Rattle.rules.specs.declared.Record.{Record}
 use Rattle.rules.specs.Flows.{none}
 use Rattle.rules.proofs.Record.Laws as R′
+use Rattle.lent.specs.Lists.{recordAt}
 use Rattle.lent.proofs.Rows.{Rec, word, flow, copies, offset-fits}
 use Rattle.lent.proofs.Callee.{Values, Good, shown}
 use Rattle.lent.proofs.Cited.{RecordAt}
@@ -81,7 +82,7 @@ module _ {M : Type 1} (𝓤 : URA M) (H : Heap 𝓤) (A : Atoms 𝓤) (W : Given
     Tested = full (vint w64 (h .count)) ∷ full (vbool (ltb i (h .count))) ∷ []
 
     -- what follows the `if`
-    finishes : (r : Record) → Is Rec r (flow 𝓤 H A W .val r ∷ []) → r ≡ cond (ltb i (length ys)) elem d
+    finishes : (r : Record) → Is Rec r (flow 𝓤 H A W .val r ∷ []) → r ≡ recordAt ys i d
         → Sq W (At (full (vint w64 (h .count)) ∷ full (vbool (ltb i (h .count))) ∷ full (flow 𝓤 H A W .val r) ∷ [])) (runs (𝓣 .C) (𝓣 .Λ) (env 𝓤 H A body.locals bs) body.t-4 Q)
     finishes r is e =
         sets ! (of-opd ! (held ! refl)) refl (flow 𝓤 H A W .typed r is .0) $

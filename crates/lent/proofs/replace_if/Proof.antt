@@ -28,6 +28,7 @@ use denote.Triple.Statement.{Triple}
 use denote.Triple.Table.{entered}
 use Rattle.rules.specs.declared.Record.{Record}
 use Rattle.rules.specs.Flows.{none}
+use Rattle.lent.specs.Lists.{replacedIf}
 use Rattle.lent.proofs.Rows.{Rec, word, flow, offset-fits}
 use Rattle.lent.proofs.Callee.{Values, Good, lending}
 use Rattle.lent.proofs.Cited.{ReplaceIf}
@@ -80,7 +81,7 @@ module _ {M : Type 1} (𝓤 : URA M) (H : Heap 𝓤) (A : Atoms 𝓤) (W : Given
     Q = atRet (env 𝓤 H A body.locals bs) (Ends 𝓤 H A W Rec (ReplaceIf 𝓤 H A W) h ys a)
 
     -- what follows the tests
-    finishes : (l : List Record) → length l ≡ h .count → l ≡ cond (go && ltb i (length ys)) zs ys → Sq W (At l (full (vbool go) ∷ [])) (runs (𝓣 .C) (𝓣 .Λ) (env 𝓤 H A body.locals bs) body.t-3 Q)
+    finishes : (l : List Record) → length l ≡ h .count → l ≡ replacedIf ys go i r → Sq W (At l (full (vbool go) ∷ [])) (runs (𝓣 .C) (𝓣 .Λ) (env 𝓤 H A body.locals bs) body.t-3 Q)
     finishes l el e =
         sets ! (of-opd ! (unit-lit !)) refl (tt, tt) $
         returns ! (look ! 0 refl) $ leaves ! body.locals bs (full vunit ∷ Passed ++ (full (vbool go) ∷ [])) (ends 𝓤 H A W Rec (ReplaceIf 𝓤 H A W) ! h ys a tt l refl el e)
