@@ -1,4 +1,6 @@
 -- What the walks cite of the functions that they call: one entry for each, in the words of its contract (`lent`'s `Callee.antt`). Where a contract changes, its entry here does, and no walk.
+-- An entry has the plain types that the function takes after its slices, the type that it gives, what it needs (`emp 𝓤` where it has no `requires`, `fact 𝓤 P` where it requires P), and what holds after it. Argument k is `a`, k times `.1`, then `.0`.
+-- That an entry is the function's contract is checked where a walk cites the function's proof, at the end of its file.
 -- Assumes nothing.
 use mathlib.Core.Path.{_≡_}
 use Prim.Native.Nat.{_≤_}
