@@ -26,7 +26,8 @@ use Rattle.rules.specs.Paths.{Chip, cell, travel, allowed, claims, freeSlots, S
 use Rattle.rules.specs.Flows.{none, flow, claiming, Blank, Own, Agree, cellsOf}
 use Rattle.rules.specs.Numbers.{number, Passes}
 use Rattle.rules.specs.Orders.{Tabled, openOrder, closeOrder, reportOrder}
-use Rattle.rules.specs.Promises.{Grants, Opens, Closes, Reports, openRecord, closedRecord, trimmed}
+use Rattle.rules.specs.Promises.{Asked, Row, Grants, Opens, Closes, Reports, openRecord, closedRecord, trimmed}
+use Rattle.laws.specs.Decided.{tabled-decided, asked-decided}
 use Rattle.laws.specs.Logic.{not-both, not-true-false, not-false-true}
 use Rattle.laws.specs.Sets.{within-below}
 use Rattle.laws.specs.Refusals.{settled, passes-not, same-number}
@@ -43,11 +44,11 @@ listed-long f (suc m) i = ap suc (listed-long f m (suc i))
 
 -- what is not refused holds
 long-stable : (chip : Chip) (t : List ℕ) → ¬ ¬ Tabled chip t → length t ≡ 64 * chip .channels
-long-stable chip t h = go (ℕ-discrete (length t) (64 * chip .channels))
+long-stable chip t h = go (tabled-decided chip t)
   where
-    go : Dec (length t ≡ 64 * chip .channels) → length t ≡ 64 * chip .channels
-    go (yes e) = e
-    go (no n) = absurd (h λ b. n (b .long))
+    go : Dec (Tabled chip t) → length t ≡ 64 * chip .channels
+    go (yes b) = b .long
+    go (no n) = absurd (h n)
 
 -- ---- each promise settles everything
 
@@ -105,6 +106,14 @@ module _ (chip : Chip) (t : List ℕ) (n : ℕ) (list : List Record) where
   reports-unique (reported.Refused r) (reported.Counted c) p q = absurd (passes-not (reportOrder chip t n list) (number r) (q .0) p)
   reports-unique (reported.Refused r) (reported.Refused s) p q =
       ap reported.Refused (same-number r s (settled (reportOrder chip t n list) (number r) (number s) p q))
+
+-- and so is the row of a channel
+pub row-unique : (chip : Chip) (t : List ℕ) (c : ℕ) (r q : List ℕ) → Row chip t c r → Row chip t c q → r ≡ q
+row-unique chip t c r q a b = go (asked-decided chip t c)
+  where
+    go : Dec (Asked chip t c) → r ≡ q
+    go (yes d) = a .good d ∙ sym (b .good d)
+    go (no d) = a .bad d ∙ sym (b .bad d)
 
 -- ---- what an opening that is not refused has seen
 
