@@ -1,4 +1,5 @@
 pub mod Logic
+pub mod Decided
 pub mod Search
 pub mod Counting
 pub mod Sets

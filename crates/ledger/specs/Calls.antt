@@ -26,7 +26,8 @@ use Rattle.rules.specs.Paths.{Chip, cell, travel, allowed, claims, freeSlots, S
 use Rattle.rules.specs.Flows.{none, flow, claiming, Blank, Own, Agree, cellsOf}
 use Rattle.rules.specs.Numbers.{number, Passes}
 use Rattle.rules.specs.Orders.{Tabled, openOrder, closeOrder, reportOrder}
-use Rattle.rules.specs.Promises.{Grants, Opens, Closes, Reports, openRecord, closedRecord, trimmed}
+use Rattle.rules.specs.Promises.{Asked, Row, Grants, Opens, Closes, Reports, openRecord, closedRecord, trimmed}
+use Rattle.laws.specs.Decided.{tabled-decided, asked-decided}
 use Rattle.laws.specs.Logic.{not-both, not-true-false, not-false-true}
 use Rattle.laws.specs.Sets.{within-below}
 use Rattle.laws.specs.Refusals.{settled, passes-not, same-number}
@@ -43,11 +44,11 @@ listed-long f (suc m) i = ap suc (listed-long f m (suc i))
 
 -- what is not refused holds
 long-stable : (chip : Chip) (t : List ℕ) → ¬ ¬ Tabled chip t → length t ≡ 64 * chip .channels
-long-stable chip t h = go (ℕ-discrete (length t) (64 * chip .channels))
+long-stable chip t h = go (tabled-decided chip t)
   where
-    go : Dec (length t ≡ 64 * chip .channels) → length t ≡ 64 * chip .channels
-    go (yes e) = e
-    go (no n) = absurd (h λ b. n (b .long))
+    go : Dec (Tabled chip t) → length t ≡ 64 * chip .channels
+    go (yes b) = b .long
+    go (no n) = absurd (h n)
 
 -- ---- each promise settles everything
 
@@ -106,6 +107,14 @@ module _ (chip : Chip) (t : List ℕ) (n : ℕ) (list : List Record) where
   reports-unique (reported.Refused r) (reported.Refused s) p q =
       ap reported.Refused (same-number r s (settled (reportOrder chip t n list) (number r) (number s) p q))
 
+-- and so is the row of a channel
+pub row-unique : (chip : Chip) (t : List ℕ) (c : ℕ) (r q : List ℕ) → Row chip t c r → Row chip t c q → r ≡ q
+row-unique chip t c r q a b = go (asked-decided chip t c)
+  where
+    go : Dec (Asked chip t c) → r ≡ q
+    go (yes d) = a .good d ∙ sym (b .good d)
+    go (no d) = a .bad d ∙ sym (b .bad d)
+
 -- ---- what an opening that is not refused has seen
 
 inside-stable : (chip : Chip) (path : List ℕ) (m : ℕ) → ¬ ¬ Inside chip path m → Inside chip path m
@@ -118,22 +127,22 @@ inside-stable chip path m h = record { at = λ i l. go i l (decLt (getD path i 0
 once-stable : (path : List ℕ) (m : ℕ) → ¬ ¬ Once path m → Once path m
 once-stable path m h = record { at = λ i k l j e. h λ once. once .at i k l j e }
 
-record Seen (chip : Chip) (n : ℕ) (list : List Record) (path : List ℕ) (m f : ℕ) (d : Demand) : Type 0 where
-  some : 1 ≤ m
-  fits : m ≤ 16
-  inside : Inside chip path m
-  once : Once path m
-  one : 1 ≤ f
-  listed : f ≤ n
-  shut : claiming (flow list (f - 1) .state) ≡ false
-  words : 1 ≤ d .words .0
-  time : travel chip path m < d .deadline
+pub record Seen (chip : Chip) (n : ℕ) (state : State) (path : List ℕ) (m f : ℕ) (d : Demand) : Type 0 where
+  pub some : 1 ≤ m
+  pub fits : m ≤ 16
+  pub inside : Inside chip path m
+  pub once : Once path m
+  pub one : 1 ≤ f
+  pub listed : f ≤ n
+  pub shut : claiming state ≡ false
+  pub words : 1 ≤ d .words .0
+  pub time : travel chip path m < d .deadline
 
 neither : {P Q : Type 0} → ¬ (P ⊎ Q) → (¬ P) × (¬ Q)
 neither h = (λ p. h (inl p), λ q. h (inr q))
 
 module _ (chip : Chip) (t : List ℕ) (n : ℕ) (list : List Record) where
-  saw : (path : List ℕ) (m f : ℕ) (d : Demand) → Passes (openOrder chip t n list path m f d) → Seen chip n list path m f d
+  saw : (path : List ℕ) (m f : ℕ) (d : Demand) → Passes (openOrder chip t n list path m f d) → Seen chip n (flow list (f - 1) .state) path m f d
   unfolding Passes
   saw path m f d p =
       let from5 = p .1 .1 .1 .1 in
@@ -177,7 +186,7 @@ put-back list i r q h e =
 
 module _ (chip : Chip) (t : List ℕ) (n : ℕ) (list : List Record) (legal : Legal (chip .wheel)) (tabled : Tabled chip t)
     (fits : n ≤ length list) (agree : Agree chip t n list) where
-  module _ (path : List ℕ) (m f : ℕ) (d : Demand) (g : Grant) (seen : Seen chip n list path m f d)
+  module _ (path : List ℕ) (m f : ℕ) (d : Demand) (g : Grant) (seen : Seen chip n (flow list (f - 1) .state) path m f d)
       (granted : Grants (chip .wheel) (freeSlots chip t path m) (d .words .0) (allowed chip path m (d .deadline)) g) where
     new-lawful : Own chip (openRecord path m (g .slots) d .state) (openRecord path m (g .slots) d)
     unfolding Own openRecord
@@ -263,7 +272,7 @@ module _ (chip : Chip) (t : List ℕ) (n : ℕ) (list : List Record) (legal : Le
       new : Record
       new = openRecord path m (g .slots) d
 
-      go : (a : Cleared) → Closes chip t′ n list′ f t″ list″ a → Seen chip n list path m f d → f - 1 < length list
+      go : (a : Cleared) → Closes chip t′ n list′ f t″ list″ a → Seen chip n (flow list (f - 1) .state) path m f d → f - 1 < length list
           → flow list′ (f - 1) ≡ openRecord path m (g .slots) d → flow list (f - 1) ≡ closedRecord
           → (a ≡ cleared.Cells (g .count * m)) × (t″ ≡ t) × (list″ ≡ list)
       go (cleared.Cells k) q seen at here was = (
