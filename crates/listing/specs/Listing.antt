@@ -16,8 +16,8 @@ use Rattle.rules.specs.Paths.{chipOf}
 use Rattle.rules.specs.Flows.{none}
 use Rattle.rules.specs.Numbers.{number}
 use Rattle.rules.specs.Promises.{Opens, Closes, Reports, closedRecord}
-use Rattle.listing.specs.Text.{lines, ascii, field, fields}
-use Rattle.listing.specs.Commands.{opening, closing, reporting, Reads, Bad}
+use Rattle.grammar.specs.Text.{lines, ascii, field, fields}
+use Rattle.grammar.specs.Commands.{opening, closing, reporting, Reads, Bad}
 
 -- the default wheel: N 8, S 3, H 1, P 3
 abbrev pub wheel : Wheel

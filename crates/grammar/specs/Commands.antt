@@ -3,7 +3,7 @@ use mathlib.Core.Path.{_≡_}
 use mathlib.Core.List.{List, _∷_, _++_}
 use Prim.Native.Nat.{ℕ, _≤_, _<_}
 use lib.ListN.{length, getD}
-use Rattle.listing.specs.Text.{ascii, field, fields}
+use Rattle.grammar.specs.Text.{ascii, field, fields}
 
 -- `open f W D c ..`, `close f`, `report`
 pub data Command : Type 0 where

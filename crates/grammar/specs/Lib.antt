@@ -1,0 +1,6 @@
+pub mod Text
+pub mod Commands
+pub mod Decimals
+pub mod Spelling
+pub mod Lines
+pub mod Writing
