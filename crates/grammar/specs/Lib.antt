@@ -4,3 +4,4 @@ pub mod Decimals
 pub mod Spelling
 pub mod Lines
 pub mod Writing
+pub mod Filling

@@ -138,3 +138,12 @@ found line at v next d r is h = record {
   split = r .split;
   stop = omega (arith, leading-most (drop next line));
 }
+
+-- the answer, taken apart
+pub was-found : (r : Number) (line : List ℕ) (at : ℕ) → Numbered line at (r .found) r → r .found ≡ true → NumberAt line at (r .value) (r .next)
+unfolding Numbered
+was-found r line at n e = rw e at n
+
+pub was-missing : (r : Number) (line : List ℕ) (at : ℕ) → Numbered line at (r .found) r → r .found ≡ false → NoNumber line at
+unfolding Numbered
+was-missing r line at n e = rw e at n

@@ -3,7 +3,8 @@ use mathlib.Core.Path.{_≡_, refl, sym, ap, _∙_}
 use mathlib.Core.List.{List, [], _∷_, _++_, append-nil}
 use Prim.Native.Nat.{ℕ, _+_, _-_, _≤_, _<_}
 use native.Mathlib.Omega.{arith}
-use lib.ListN.{length, getD, drop, drop-of-length-le}
+use lib.ListN.{length, getD, take, drop, length-append, take-append-drop, drop-of-length-le, List·getD-append}
+use lib.Seq.{ext-getD, getD-take, length-take-le}
 use Rattle.rules.specs.Sets.{listOf}
 use Rattle.grammar.specs.Text.{ascii, field, fields}
 use Rattle.grammar.specs.Commands.{Command, opening, closing, reporting, spelled, Few, Formed, Reads, Bad}
@@ -73,3 +74,20 @@ closing-reads line f b small e = record { formed = small; spelled = b .split ∙
 pub reporting-reads : (line : List ℕ) → Begins line report-bytes → length line ≡ 6 → Reads line reporting
 unfolding spelled Formed ascii listOf
 reporting-reads line b e = record { formed = tt; spelled = b .split ∙ ap (λ xs. report-bytes ++ xs) (drop-of-length-le line {i = 6} (omega arith)) }
+
+-- ---- whether a line begins with a word
+
+pub begins-all : (line word : List ℕ) → length word ≤ length line → ((k : ℕ) → k < length word → getD line k 0 ≡ getD word k 0) → Begins line word
+begins-all line word h same =
+    let front : take (length word) line ≡ word =
+        ext-getD 0 (take (length word) line) word (length-take-le (length word) line h)
+        λ i l.
+            let below : i < length word = omega (arith, length-take-le (length word) line h) in
+            getD-take (length word) line i 0 below ∙ same i below in
+    record { split = sym (take-append-drop (length word) line) ∙ ap (λ xs. xs ++ drop (length word) line) front }
+
+pub begins-long : (line word : List ℕ) → Begins line word → length word ≤ length line
+begins-long line word b = omega (arith, ap length (b .split), length-append word (drop (length word) line))
+
+pub begins-same : (line word : List ℕ) → Begins line word → (i : ℕ) → i < length word → getD line i 0 ≡ getD word i 0
+begins-same line word b i h = ap (λ l. getD l i 0) (b .split) ∙ List·getD-append word (drop (length word) line) 0 i h

@@ -6,6 +6,7 @@ ghost use mathlib.Core.Bool.{true, false};
 ghost use Prim.Native.Nat.{_-_, _≤_, _<_};
 ghost use lib.ListN.{length, drop};
 ghost use Rattle.rules.specs.Tells.{Tells};
+ghost use Rattle.rules.specs.Promises.{trimmed};
 ghost use Rattle.grammar.specs.Decimals.{leading};
 ghost use Rattle.grammar.specs.Decimals.{digit as Digit·of};
 ghost use Rattle.grammar.specs.Lines.{Ends};
@@ -145,4 +146,178 @@ fn number_at(line: &[u8], at: usize) -> Number
         value: value as u16,
         next: next,
     }
+}
+
+// Nineteen zeros.
+fn zeros() -> [u16; 19]
+    ensures { λ r. ⌜ length r ≡ 19 ⌝ }
+{
+    [0; 19]
+}
+
+// What is answered where something else than fields stands.
+fn no_fields() -> Fields
+    ensures { λ r. ⌜ r .good ≡ false ⌝ }
+{
+    Fields {
+        good: false,
+        values: [0; 19],
+        count: 0,
+    }
+}
+
+// The fields from a place of the line to its end: a space and a number each, at most 19.
+fn fields_at(line: &[u8], at: usize) -> Fields
+    ensures { λ r. ⌜ Split (now (line .entry)) at (r .good) r ⌝ }
+{
+    let mut values = zeros();
+    let mut count = 0;
+    let mut i = at;
+    while i < line.len() {
+        if count == 19 {
+            return no_fields();
+        }
+        if line[i] != b' ' {
+            return no_fields();
+        }
+        let n = number_at(line, i + 1);
+        if !n.found {
+            return no_fields();
+        }
+        values[count] = n.value;
+        count += 1;
+        i = n.next;
+    }
+    Fields {
+        good: true,
+        values: values,
+        count: count,
+    }
+}
+
+// Whether the line begins with the word.
+fn begins(line: &[u8], word: &[u8]) -> bool
+    ensures { λ r. ⌜ Tells r (Begins (now (line .entry)) (now (word .entry))) ⌝ }
+{
+    if line.len() < word.len() {
+        return false;
+    }
+    let mut i = 0;
+    while i < word.len() {
+        if line[i] != word[i] {
+            return false;
+        }
+        i += 1;
+    }
+    true
+}
+
+// The path of an opening: the numbers after the first three, and zeros behind them.
+fn path_of(values: [u16; 19], count: usize) -> [u16; 16]
+    requires { ⌜ count ≤ 16 ⌝ }
+    ensures { λ r. ⌜ r ≡ trimmed (drop 3 values) count ⌝ }
+{
+    let mut path = [0; 16];
+    let mut i = 0;
+    while i < count {
+        path[i] = values[i + 3];
+        i += 1;
+    }
+    path
+}
+
+// A line that is no command.
+fn bad() -> Parsed
+    ensures { λ r. ⌜ r .verb ≡ Verb.Neither ⌝ }
+{
+    Parsed {
+        verb: Verb::Neither,
+        flow: 0,
+        words: 0,
+        deadline: 0,
+        path: [0; 16],
+        len: 0,
+    }
+}
+
+// A line that begins with `open`: three numbers or more have to follow.
+fn opening(line: &[u8]) -> Parsed
+    requires { ⌜ Begins (now line) open-bytes ⌝ }
+    ensures { λ r. ⌜ Means (now (line .entry)) r ⌝ }
+{
+    let f = fields_at(line, 4);
+    if !f.good {
+        return bad();
+    }
+    let count = f.count;
+    if count < 3 {
+        return bad();
+    }
+    let values = f.values;
+    let path = path_of(values, count - 3);
+    Parsed {
+        verb: Verb::Open,
+        flow: values[0],
+        words: values[1],
+        deadline: values[2],
+        path: path,
+        len: count - 3,
+    }
+}
+
+// A line that begins with `close`: one number has to follow.
+fn closing(line: &[u8]) -> Parsed
+    requires { ⌜ Begins (now line) close-bytes ⌝ }
+    ensures { λ r. ⌜ Means (now (line .entry)) r ⌝ }
+{
+    let f = fields_at(line, 5);
+    if !f.good {
+        return bad();
+    }
+    if f.count != 1 {
+        return bad();
+    }
+    let values = f.values;
+    Parsed {
+        verb: Verb::Close,
+        flow: values[0],
+        words: 0,
+        deadline: 0,
+        path: [0; 16],
+        len: 0,
+    }
+}
+
+// A line that begins with `report`: nothing may follow.
+fn reporting(line: &[u8]) -> Parsed
+    requires { ⌜ Begins (now line) report-bytes ⌝ }
+    ensures { λ r. ⌜ Means (now (line .entry)) r ⌝ }
+{
+    if line.len() != 6 {
+        return bad();
+    }
+    Parsed {
+        verb: Verb::Report,
+        flow: 0,
+        words: 0,
+        deadline: 0,
+        path: [0; 16],
+        len: 0,
+    }
+}
+
+// A line, without its line feed, as a command.
+pub fn command(line: &[u8]) -> Parsed
+    ensures { λ r. ⌜ Means (now (line .entry)) r ⌝ }
+{
+    if begins(line, b"open") {
+        return opening(line);
+    }
+    if begins(line, b"close") {
+        return closing(line);
+    }
+    if begins(line, b"report") {
+        return reporting(line);
+    }
+    bad()
 }
