@@ -1,5 +1,6 @@
 pub mod Text
 pub mod Commands
+pub mod Answers
 pub mod Decimals
 pub mod Spelling
 pub mod Lines

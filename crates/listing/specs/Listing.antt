@@ -2,21 +2,18 @@
 use mathlib.Core.Path.{_≡_}
 use mathlib.Core.List.{List, [], _∷_, _++_}
 use Prim.Native.Nat.{ℕ, _+_, _≤_, _<_}
-use lib.ListN.{length, take, getD}
+use lib.ListN.{length, getD}
 use Rattle.rules.specs.declared.Wheel.{Wheel}
 use Rattle.rules.specs.declared.Record.{Record}
 use Rattle.rules.specs.declared.Opened.{Opened}
-use Rattle.rules.specs.declared.Opened.the-variants as opened
 use Rattle.rules.specs.declared.Cleared.{Cleared}
-use Rattle.rules.specs.declared.Cleared.the-variants as cleared
 use Rattle.rules.specs.declared.Reported.{Reported}
-use Rattle.rules.specs.declared.Reported.the-variants as reported
-use Rattle.rules.specs.Sets.{has, places, listOf}
+use Rattle.rules.specs.Sets.{listOf}
 use Rattle.rules.specs.Paths.{chipOf}
 use Rattle.rules.specs.Flows.{none}
-use Rattle.rules.specs.Numbers.{number}
-use Rattle.rules.specs.Promises.{Opens, Closes, Reports, closedRecord}
-use Rattle.grammar.specs.Text.{lines, ascii, field, fields}
+use Rattle.rules.specs.Promises.{trimmed, Opens, Closes, Reports, closedRecord}
+use Rattle.grammar.specs.Text.{lines}
+use Rattle.grammar.specs.Answers.{openText, closeText, reportText, badText, longText}
 use Rattle.grammar.specs.Commands.{opening, closing, reporting, Reads, Bad}
 
 -- the default wheel: N 8, S 3, H 1, P 3
@@ -28,33 +25,18 @@ pub record State : Type 0 where
   pub table : List ℕ
   pub list : List Record
 
--- ---- the text of each answer
-
--- "the chosen slots at the first channel in rising order, then delivered words"
-unfoldable pub openText : ℕ → Opened → List ℕ
-openText f (opened.Granted g) = ascii "open" ++ field f ++ ascii " slots" ++ fields (places (has (g .slots)) 0 64) ++ ascii " words" ++ field (g .words .0)
-openText f (opened.Refused r) = ascii "open" ++ field f ++ ascii " refused" ++ field (number r)
-
-unfoldable pub closeText : ℕ → Cleared → List ℕ
-closeText f (cleared.Cells k) = ascii "close" ++ field f ++ ascii " cells" ++ field k
-closeText f (cleared.Refused r) = ascii "close" ++ field f ++ ascii " refused" ++ field (number r)
-
-unfoldable pub reportText : Reported → List ℕ
-reportText (reported.Counted c) = ascii "report free" ++ field (c .free) ++ ascii " held" ++ field (c .held)
-reportText (reported.Refused r) = ascii "report refused" ++ field (number r)
-
 -- ---- one line
 
 -- line k, and the text that it gets; s and s′ are table and list before and after
 pub data Step (s : State) (k : ℕ) (line : List ℕ) (s′ : State) (text : List ℕ) : Type 0 where
-  opens : (f W D : ℕ) (channels path : List ℕ) (a : Opened) → Reads line (opening f W D channels) → take (length channels) path ≡ channels
-      → Opens (chipOf wheel (s .table)) (s .table) 16 (s .list) path (length channels) f (record { words = record { 0 = W }; deadline = D }) (s′ .table) (s′ .list) a
+  opens : (f W D : ℕ) (channels : List ℕ) (a : Opened) → Reads line (opening f W D channels)
+      → Opens (chipOf wheel (s .table)) (s .table) 16 (s .list) (trimmed channels (length channels)) (length channels) f (record { words = record { 0 = W }; deadline = D }) (s′ .table) (s′ .list) a
       → text ≡ openText f a → Step s k line s′ text
   closes : (f : ℕ) (a : Cleared) → Reads line (closing f) → Closes (chipOf wheel (s .table)) (s .table) 16 (s .list) f (s′ .table) (s′ .list) a
       → text ≡ closeText f a → Step s k line s′ text
   reports : (a : Reported) → Reads line reporting → Reports (chipOf wheel (s .table)) (s .table) 16 (s .list) a → s′ ≡ s
       → text ≡ reportText a → Step s k line s′ text
-  bad : Bad line → s′ ≡ s → text ≡ ascii "line" ++ field k ++ ascii " bad" → Step s k line s′ text
+  bad : Bad line → s′ ≡ s → text ≡ badText k → Step s k line s′ text
 
 -- ---- all lines
 
@@ -75,4 +57,4 @@ pub record Lists (input out : List ℕ) : Type 0 where
   pub start : State
   pub fresh : Fresh start
   pub printed : length input ≤ 4096 → Prints start 1 (lines input) out
-  pub too-long : 4096 < length input → out ≡ ascii "input too long" ++ (10 ∷ [])
+  pub too-long : 4096 < length input → out ≡ longText
