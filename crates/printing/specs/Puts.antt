@@ -39,3 +39,16 @@ puts-copied old at text new i e all = record {
       e ∙ ap (paste old at text) all ∙ append-assoc (take at old) (take (length text) text) (drop (at + length text) old)
       ∙ ap (λ xs. take at old ++ (xs ++ drop (at + length text) old)) (take-length text);
 }
+
+-- ---- room: where both texts fit, the first does, and then the second
+
+pub room-first : (old : List ℕ) (at : ℕ) (a b : List ℕ) → at + length (a ++ b) ≤ length old → at + length a ≤ length old
+room-first old at a b h = omega (arith, length-append a b)
+
+pub room-second : {old mid : List ℕ} {at p : ℕ} (a b : List ℕ) → Puts old at a mid p → at + length (a ++ b) ≤ length old → p + length b ≤ length mid
+room-second {old} {mid} {at} {p} a b f h =
+    omega (arith, length-append a b, f .place, puts-length a f (room-first old at a b h))
+
+-- the same room for the same text
+pub room-same : (old : List ℕ) (at : ℕ) (a b : List ℕ) → a ≡ b → at + length a ≤ length old → at + length b ≤ length old
+room-same old at a b e h = rw e at h

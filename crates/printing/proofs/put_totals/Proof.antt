@@ -1,0 +1,41 @@
+-- The free cells, then those held.
+use mathlib.Core.List.{_++_}
+use Rattle.rules.specs.Sets.{listOf}
+use Rattle.grammar.specs.Text.{ascii, field}
+use Rattle.printing.specs.Tails.{totalsText}
+use Rattle.printing.specs.Puts.{puts-then, room-first, room-second}
+use borrow.Author.Needs.{needs}
+use Rattle.printing.proofs.put_totals.Statement.{statement}
+use Rattle.printing.proofs.put_totals.Tie as tie
+
+slice-aggregate-put-labelled : tie.Need-slice-aggregate-put-labelled
+slice-aggregate-put-labelled c = search needs
+
+put-labelled-requires : tie.Need-put-labelled-requires
+unfolding totalsText ascii listOf
+put-labelled-requires c κs = let st = c .before .before .before in room-first (st .args .out .now) (st .args .at) (ascii "report free" ++ field (st .args .c .free)) (ascii " held" ++ field (st .args .c .held)) (st .pre)
+
+slice-aggregate-put-labelled-2 : tie.Need-slice-aggregate-put-labelled-2
+slice-aggregate-put-labelled-2 c = search needs
+
+put-labelled-requires-2 : tie.Need-put-labelled-requires-2
+unfolding totalsText ascii listOf
+put-labelled-requires-2 c κs = let st = c .before .before .before .before .before .before .before .before in room-second (ascii "report free" ++ field (st .args .c .free)) (ascii " held" ++ field (st .args .c .held)) (c .before .before .before .before .put-labelled .ensures) (st .pre)
+
+same-length : tie.Need-same-length
+same-length c = search needs
+
+returns : tie.Need-returns
+unfolding totalsText ascii listOf
+returns c = let st = c .before .before .before .before .before .before .before .before .before .before .before in puts-then (ascii "report free" ++ field (st .args .c .free)) (ascii " held" ++ field (st .args .c .held)) (c .before .before .before .before .before .before .before .put-labelled .ensures) (c .before .before .put-labelled2 .ensures) (st .pre)
+
+pub put-totals-spec : {M : Type 1} → statement M
+put-totals-spec =
+    tie.close
+    (tie.spec
+    slice-aggregate-put-labelled
+    put-labelled-requires
+    slice-aggregate-put-labelled-2
+    put-labelled-requires-2
+    same-length
+    returns)
