@@ -1,1 +1,4 @@
 pub mod Listing
+pub mod Below
+pub mod Short
+pub mod Lines
