@@ -2,3 +2,4 @@ pub mod Listing
 pub mod Below
 pub mod Short
 pub mod Lines
+pub mod Runs

@@ -1,9 +1,9 @@
 -- What the functions of the listing promise, from a line to the whole.
-use mathlib.Core.Path.{_≡_, refl, sym, ap, _∙_, subst}
+use mathlib.Core.Path.{refl}
 use mathlib.Core.List.{List, [], _∷_, _++_}
 use Prim.Native.Nat.{ℕ, _+_, _*_, _≤_, _<_, max}
 use native.Mathlib.Omega.{arith}
-use lib.ListN.{length, take, drop, length-append}
+use lib.ListN.{length, length-append}
 use Rattle.rules.specs.declared.Record.{Record}
 use Rattle.rules.specs.declared.Opened.{Opened}
 use Rattle.rules.specs.declared.Cleared.{Cleared}
@@ -11,7 +11,7 @@ use Rattle.rules.specs.declared.Reported.{Reported}
 use Rattle.rules.specs.Paths.{chipOf}
 use Rattle.grammar.specs.Answers.{openText, closeText, reportText, badText}
 use Rattle.grammar.specs.Commands.{opening, closing, reporting, Reads, Bad}
-use Rattle.printing.specs.Puts.{Puts}
+use Rattle.printing.specs.Puts.{Puts, puts-then}
 use Rattle.reading.specs.declared.Parsed.{Parsed}
 use Rattle.reading.specs.Meaning.{Opening}
 use Rattle.stand.specs.Like.{OpensLike as Opens, ClosesLike as Closes, ReportsLike as Reports}
@@ -66,6 +66,13 @@ pub record Lined (s : State) (k : ℕ) (line : List ℕ) (s′ : State) (old : L
   pub fair : length text + 1 ≤ max 14 (14 * length line)
   pub puts : Puts old at text new place
 
+-- the same, with its line feed
+pub record Fed (s : State) (k : ℕ) (line : List ℕ) (s′ : State) (old : List ℕ) (at : ℕ) (new : List ℕ) (place : ℕ) : Type 0 where
+  pub text : List ℕ
+  pub step : Step s k line s′ text
+  pub fair : length text + 1 ≤ max 14 (14 * length line)
+  pub puts : Puts old at (text ++ (10 ∷ [])) new place
+
 pub lined-open : (k : ℕ) (line : List ℕ) (p : Parsed) (s s′ : State) (old : List ℕ) (at : ℕ) (new : List ℕ) (place : ℕ) → Opening line p
     → OpenLine p s s′ old at new place → Lined s k line s′ old at new place
 lined-open k line p s s′ old at new place o l =
@@ -116,3 +123,13 @@ lined-bad k line s old at new place h b l =
       fair = omega arith;
       puts = l;
     }
+
+-- a text, then its line feed
+pub fed : (s : State) (k : ℕ) (line : List ℕ) (s′ : State) (old : List ℕ) (at : ℕ) (mid : List ℕ) (p : ℕ) (new : List ℕ) (place : ℕ)
+    → Lined s k line s′ old at mid p → Puts mid p (10 ∷ []) new place → at + 84 ≤ length old → Fed s k line s′ old at new place
+fed s k line s′ old at mid p new place l f h = record {
+  text = l .text;
+  step = l .step;
+  fair = l .fair;
+  puts = puts-then (l .text) (10 ∷ []) (l .puts) f (omega (arith, l .short, length-append (l .text) (10 ∷ [])));
+}

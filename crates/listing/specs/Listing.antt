@@ -2,7 +2,7 @@
 use mathlib.Core.Path.{_≡_}
 use mathlib.Core.List.{List, [], _∷_, _++_}
 use Prim.Native.Nat.{ℕ, _+_, _≤_, _<_}
-use lib.ListN.{length, getD}
+use lib.ListN.{length, getD, take, drop}
 use Rattle.rules.specs.declared.Wheel.{Wheel}
 use Rattle.rules.specs.declared.Record.{Record}
 use Rattle.rules.specs.declared.Opened.{Opened}
@@ -47,11 +47,15 @@ pub data Prints : State → ℕ → List (List ℕ) → List ℕ → Type 0 wher
   next : {s : State} {k : ℕ} {line : List ℕ} {rest : List (List ℕ)} {s′ : State} {text out : List ℕ}
       → Step s k line s′ text → Prints s′ (k + 1) rest out → Prints s k (line ∷ rest) (text ++ (10 ∷ out))
 
--- 16 channels, all cells free; room for 64 records, of which the first 16 are used, all closed
+-- room for 64 records, all closed
+pub record Blanks (list : List Record) : Type 0 where
+  pub long : length list ≡ 64
+  pub closed : (i : ℕ) → i < 64 → getD list i none ≡ closedRecord
+
+-- "an empty table, 16 channels, 16 flows": all cells free; of the records the first 16 are used
 pub record Fresh (s : State) : Type 0 where
   pub table : s .table ≡ listOf (λ i. 0) 0 1024
-  pub long : length (s .list) ≡ 64
-  pub closed : (i : ℕ) → i < 64 → getD (s .list) i none ≡ closedRecord
+  pub list : Blanks (s .list)
 
 -- "at most 4,096 bytes, otherwise it prints only `input too long`"
 pub record Lists (input out : List ℕ) : Type 0 where
@@ -59,3 +63,11 @@ pub record Lists (input out : List ℕ) : Type 0 where
   pub fresh : Fresh start
   pub printed : length input ≤ 4096 → Prints start 1 (lines input) out
   pub too-long : 4096 < length input → out ≡ longText
+
+-- what `list` leaves in a buffer: the listing at its start, if it has room for 65,536 bytes, and the bytes past it as before
+pub record Writes (input old new : List ℕ) (r : ℕ) : Type 0 where
+  pub short : length old < 65536 → (r ≡ 0) × (new ≡ old)
+  pub lists : 65536 ≤ length old → Lists input (take r new)
+  pub inside : r ≤ length new
+  pub long : length new ≡ length old
+  pub rest : drop r new ≡ drop r old
