@@ -129,9 +129,9 @@ pub decimal-cut : (a b : ℕ) (xs ys : List ℕ) → a ≤ 65535 → b ≤ 65535
     → (a ≡ b) × (xs ≡ ys)
 unfolding decimal
 decimal-cut a b xs ys ha hb ex ey e = (
-      sym (value-end a xs ex) ∙ sym (decimal-value a xs ha) ∙ ap (value 0) e ∙ decimal-value b ys hb ∙ value-end b ys ey,
-      sym (after-end xs ex) ∙ sym (digits-after 20 a xs) ∙ ap after e ∙ digits-after 20 b ys ∙ after-end ys ey,
-    )
+  sym (value-end a xs ex) ∙ sym (decimal-value a xs ha) ∙ ap (value 0) e ∙ decimal-value b ys hb ∙ value-end b ys ey,
+  sym (after-end xs ex) ∙ sym (digits-after 20 a xs) ∙ ap after e ∙ digits-after 20 b ys ∙ after-end ys ey,
+)
 
 -- more digits than a number has change nothing
 digits-fuel : (f n : ℕ) → n < bound (suc f) → digits (suc f) n ≡ digits (suc (suc f)) n

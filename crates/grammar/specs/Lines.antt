@@ -44,7 +44,7 @@ module _ (text : List ℕ) (at end : ℕ) (ends : Ends text at end) where
   line-clear = record {
     at = λ i h e.
         let inside : i < end - at = omega (arith, line-length) in
-        ends .clear (at + i) (omega arith) (omega arith) (sym (getD-take (end - at) (drop at text) i 0 inside ∙ getD-drop at text i 0) ∙ e)
+        ends .clear (at + i) (omega arith) (omega arith) (sym (getD-take (end - at) (drop at text) i 0 inside ∙ getD-drop at text i 0) ∙ e);
   }
 
   split : drop at text ≡ take (end - at) (drop at text) ++ drop end text

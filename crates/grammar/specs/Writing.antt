@@ -39,8 +39,8 @@ written-on old at a b h =
     let fits : at + length a ≤ length old = omega arith in
     let left = written-take old at a fits in
     let right : drop (n + length b) (written old at a) ≡ drop (at + length (a ++ b)) old =
-        sym (drop-drop (length b) n (written old at a)) ∙ ap (drop (length b)) (written-drop old at a fits)
-        ∙ drop-drop (length b) n old ∙ ap (λ k. drop k old) same in
+    sym (drop-drop (length b) n (written old at a)) ∙ ap (drop (length b)) (written-drop old at a fits)
+    ∙ drop-drop (length b) n old ∙ ap (λ k. drop k old) same in
     ap (λ xs. xs ++ (b ++ drop (n + length b) (written old at a))) left
     ∙ ap (λ xs. (take at old ++ a) ++ (b ++ xs)) right
     ∙ append-assoc (take at old) a (b ++ drop (at + length (a ++ b)) old)

@@ -80,10 +80,10 @@ module _ (input : List ℕ) (s₀ : State) (out₀ : List ℕ) (s : State) (from
       let text = t .text ++ (10 ∷ []) in
       let fits : at + length text ≤ length out = omega (arith, t .puts .place, t .fair, g .fair, g .long, t .inside, t .on) in
       let took : take place new ≡ take at out ++ text =
-          ap (λ n. take n new) (t .puts .place) ∙ ap (take (at + length text)) (t .puts .out) ∙ written-take out at text fits in
+      ap (λ n. take n new) (t .puts .place) ∙ ap (take (at + length text)) (t .puts .out) ∙ written-take out at text fits in
       let left : drop place new ≡ drop place out =
-          ap (λ n. drop n new) (t .puts .place) ∙ ap (drop (at + length text)) (t .puts .out) ∙ written-drop out at text fits
-          ∙ ap (λ n. drop n out) (sym (t .puts .place)) in
+      ap (λ n. drop n new) (t .puts .place) ∙ ap (drop (at + length text)) (t .puts .out) ∙ written-drop out at text fits
+      ∙ ap (λ n. drop n out) (sym (t .puts .place)) in
       let past : at + length text ≡ place = sym (t .puts .place) in
       record {
         inside = t .inside;
@@ -140,10 +140,10 @@ writes-long input old new r room long p =
     let fits : 0 + length longText ≤ length old = omega arith in
     let kept : length new ≡ length old = puts-length longText p fits in
     let took : take r new ≡ longText =
-        ap (λ n. take n new) (p .place) ∙ ap (take (0 + length longText)) (p .out) ∙ written-take old 0 longText fits in
+    ap (λ n. take n new) (p .place) ∙ ap (take (0 + length longText)) (p .out) ∙ written-take old 0 longText fits in
     let left : drop r new ≡ drop r old =
-        ap (λ n. drop n new) (p .place) ∙ ap (drop (0 + length longText)) (p .out) ∙ written-drop old 0 longText fits
-        ∙ ap (λ n. drop n old) (sym (p .place)) in
+    ap (λ n. drop n new) (p .place) ∙ ap (drop (0 + length longText)) (p .out) ∙ written-drop old 0 longText fits
+    ∙ ap (λ n. drop n old) (sym (p .place)) in
     record {
       short = λ l. absurd (omega arith);
       lists = λ l. record { start = first; fresh = first-fresh; printed = λ m. absurd (omega arith); too-long = λ m. took };

@@ -47,7 +47,6 @@ slots-short f below i (suc m) = go (f i) refl (slots-short f below (suc i) m)
     go true e h = let l : i < 8 = below i e in simp length-append (omega (arith, field-small i (omega arith)))
     go false e h = omega arith
 
-
 module _ (t : List ℕ) (list : List Record) (path : List ℕ) (m f : ℕ) (d : Demand) (t′ : List ℕ) (list′ : List Record) where
   pub open-short : (a : Opened) → Opens (chipOf wheel t) t 16 list path m f d t′ list′ a → length (openText f a) ≤ 83
   unfolding openText ascii listOf Opens

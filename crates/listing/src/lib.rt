@@ -70,7 +70,13 @@ fn open_line(p: Parsed, table: &mut [u8], list: [Record; 64], out: &mut [u8], at
 }
 
 // A line that asks for a closing.
-fn close_line(p: Parsed, table: &mut [u8], list: [Record; 64], out: &mut [u8], at: usize) -> Answered
+fn close_line(
+    p: Parsed,
+    table: &mut [u8],
+    list: [Record; 64],
+    out: &mut [u8],
+    at: usize,
+) -> Answered
     requires { ⌜ at + 83 ≤ length (now out) ⌝ }
     ensures { λ r. ⌜ CloseLine p (state (now (table .entry)) list) (state (now (table .exit)) (r .list)) (now (out .entry)) at (now (out .exit)) (r .place) ⌝ }
 {
@@ -95,7 +101,14 @@ fn report_line(table: &[u8], list: [Record; 64], out: &mut [u8], at: usize) -> u
 }
 
 // Reads line k, carries it out and puts its text.
-fn answer(line: &[u8], k: usize, table: &mut [u8], list: [Record; 64], out: &mut [u8], at: usize) -> Answered
+fn answer(
+    line: &[u8],
+    k: usize,
+    table: &mut [u8],
+    list: [Record; 64],
+    out: &mut [u8],
+    at: usize,
+) -> Answered
     requires { ⌜ at + 83 ≤ length (now out) ⌝ }
     requires { ⌜ k < 10000 ⌝ }
     ensures { λ r. ⌜ Lined (state (now (table .entry)) list) k (now (line .entry)) (state (now (table .exit)) (r .list)) (now (out .entry)) at (now (out .exit)) (r .place) ⌝ }

@@ -64,7 +64,7 @@ module _ (line : List ℕ) (at : ℕ) (values : List ℕ) (count i : ℕ) (g : G
   too-many q = record {
     none = λ ns few most e.
         let r = g .rest ns few most e in
-        omega (arith, r .room, ap length (next-of r .all))
+        omega (arith, r .room, ap length (next-of r .all));
   }
 
   pub no-space : (getD line i 0 ≡ 32 → ⊥) → NoFields line at
@@ -75,7 +75,7 @@ module _ (line : List ℕ) (at : ℕ) (values : List ℕ) (count i : ℕ) (g : G
     none = λ ns few most e.
         let r = g .rest ns few most e in
         let n = next-of r in
-        q .none (n .n) (fields (n .others)) (few-head (rw (n .all) at (r .few))) (fields-begin (n .others)) (n .left)
+        q .none (n .n) (fields (n .others)) (few-head (rw (n .all) at (r .few))) (fields-begin (n .others)) (n .left);
   }
 
   module _ (v next : ℕ) (space : getD line i 0 ≡ 32) (n : NumberAt line (i + 1) v next) where
@@ -85,7 +85,7 @@ module _ (line : List ℕ) (at : ℕ) (values : List ℕ) (count i : ℕ) (g : G
     pub going-on : (count ≡ 19 → ⊥) → Going line at (set values count v) (count + 1) next
     going-on q =
         let took : take (count + 1) (set values count v) ≡ take count values ++ (v ∷ []) =
-            ap (λ k. take k (set values count v)) (add-one count) ∙ take-suc-set values count v (omega (arith, g .long, g .most)) in
+        ap (λ k. take k (set values count v)) (add-one count) ∙ take-suc-set values count v (omega (arith, g .long, g .most)) in
         record {
           long = length-set values count v ∙ g .long;
           most = omega (arith, g .most);

@@ -92,12 +92,12 @@ module _ (line : List ℕ) where
     zero-first z = record {
       none = λ n rest s l e.
           let zero-there : drop at line ≡ 48 ∷ drop next line =
-              r .split ∙ ap (λ k. decimal k ++ drop next line) z ∙ ap (λ xs. xs ++ drop next line) (decimal-one 0 (omega arith)) in
+          r .split ∙ ap (λ k. decimal k ++ drop next line) z ∙ ap (λ xs. xs ++ drop next line) (decimal-one 0 (omega arith)) in
           let first : leading (decimal n ++ rest) ≡ 0 = sym (ap leading e) ∙ ap leading zero-there ∙ digit-is 0 (omega arith) in
           let is-zero : decimal n ++ rest ≡ 48 ∷ rest =
-              ap (λ k. decimal k ++ rest) (decimal-zero n rest s first) ∙ ap (λ xs. xs ++ rest) (decimal-one 0 (omega arith)) in
+          ap (λ k. decimal k ++ rest) (decimal-zero n rest s first) ∙ ap (λ xs. xs ++ rest) (decimal-one 0 (omega arith)) in
           let same : rest ≡ drop next line = ap (drop 1) (sym is-zero ∙ sym e ∙ zero-there) in
-          omega (arith, ap leading same)
+          omega (arith, ap leading same);
     }
 
     pub too-large : 65535 < v * 10 + d → NoNumber line at
@@ -107,9 +107,9 @@ module _ (line : List ℕ) where
           let byte : digit (48 + d) ≡ d = digit-is d h in
           let read : value 0 (drop at line) ≡ n = ap (value 0) e ∙ decimal-value n rest s ∙ value-end n rest l in
           let same : value 0 (drop at line) ≡ value (v * 10 + d) after =
-              ap (value 0) longer ∙ decimal-value v ((48 + d) ∷ after) (r .small) ∙ value-digit v (48 + d) after (omega arith)
-              ∙ ap (λ k. value (v * 10 + k) after) byte in
-          omega (arith, value-grows (v * 10 + d) after)
+          ap (value 0) longer ∙ decimal-value v ((48 + d) ∷ after) (r .small) ∙ value-digit v (48 + d) after (omega arith)
+          ∙ ap (λ k. value (v * 10 + k) after) byte in
+          omega (arith, value-grows (v * 10 + d) after);
     }
 
 -- ---- a search for a byte

@@ -35,8 +35,8 @@ module _ (line : List ℕ) (r : Fields) (b : Begins line open-bytes) (f : Fields
   pub opens-not : r .count < 3 → Bad line
   opens-not h =
       not-open line b λ ns few most some e.
-          let same = fields-same (take (r .count) (r .values)) ns (f .few) few (sym (f .spelled) ∙ e) in
-          omega (arith, ap length same, count-long)
+      let same = fields-same (take (r .count) (r .values)) ns (f .few) few (sym (f .spelled) ∙ e) in
+      omega (arith, ap length same, count-long)
 
   pub means-open : 3 ≤ r .count
       → Opening line (record { verb = verb.Open; flow = getD (r .values) 0 0; words = getD (r .values) 1 0; deadline = getD (r .values) 2 0; path = trimmed (drop 3 (r .values)) (r .count - 3); len = r .count - 3 })
@@ -48,7 +48,7 @@ module _ (line : List ℕ) (r : Fields) (b : Begins line open-bytes) (f : Fields
       let long : length cs ≡ m = length-take-le m (drop 3 vs) (omega (arith, f .most)) in
       let number : r .count ≡ suc (suc (suc m)) = omega arith in
       let all : take (r .count) vs ≡ getD vs 0 0 ∷ getD vs 1 0 ∷ getD vs 2 0 ∷ cs =
-          ap (λ k. take k vs) number ∙ ap (take (suc (suc (suc m)))) (three vs (omega (arith, f .long))) in
+      ap (λ k. take k vs) number ∙ ap (take (suc (suc (suc m)))) (three vs (omega (arith, f .long))) in
       record {
         channels = cs;
         reads =
@@ -67,8 +67,8 @@ module _ (line : List ℕ) (r : Fields) (b : Begins line close-bytes) (f : Field
   pub closes-not : (r .count ≡ 1 → ⊥) → Bad line
   closes-not h =
       not-close line b λ n small e.
-          let same = fields-same (take (r .count) (r .values)) (n ∷ []) (f .few) (few-cons small few-none) (sym (f .spelled) ∙ e) in
-          h (sym (length-take-le (r .count) (r .values) (omega (arith, f .most, f .long))) ∙ ap length same)
+      let same = fields-same (take (r .count) (r .values)) (n ∷ []) (f .few) (few-cons small few-none) (sym (f .spelled) ∙ e) in
+      h (sym (length-take-le (r .count) (r .values) (omega (arith, f .most, f .long))) ∙ ap length same)
 
   pub means-close : r .count ≡ 1 → Reads line (closing (getD (r .values) 0 0))
   means-close h =

@@ -80,10 +80,10 @@ reporting-reads line b e = record { formed = tt; spelled = b .split ∙ ap (λ x
 pub begins-all : (line word : List ℕ) → length word ≤ length line → ((k : ℕ) → k < length word → getD line k 0 ≡ getD word k 0) → Begins line word
 begins-all line word h same =
     let front : take (length word) line ≡ word =
-        ext-getD 0 (take (length word) line) word (length-take-le (length word) line h)
-        λ i l.
-            let below : i < length word = omega (arith, length-take-le (length word) line h) in
-            getD-take (length word) line i 0 below ∙ same i below in
+    ext-getD 0 (take (length word) line) word (length-take-le (length word) line h)
+    λ i l.
+    let below : i < length word = omega (arith, length-take-le (length word) line h) in
+    getD-take (length word) line i 0 below ∙ same i below in
     record { split = sym (take-append-drop (length word) line) ∙ ap (λ xs. xs ++ drop (length word) line) front }
 
 pub begins-long : (line word : List ℕ) → Begins line word → length word ≤ length line

@@ -37,7 +37,13 @@ pub fn open(
     }
 }
 
-pub fn close(table: &mut [u8], w: Wheel, list: [Record; 64], count: usize, flow: usize) -> ClearedList
+pub fn close(
+    table: &mut [u8],
+    w: Wheel,
+    list: [Record; 64],
+    count: usize,
+    flow: usize,
+) -> ClearedList
     ensures { λ r. ⌜ ClosesLike (chipOf w (now (table .entry))) (now (table .entry)) count list flow (now (table .exit)) (r .list) (r .answer) ⌝ }
 {
     ClearedList {

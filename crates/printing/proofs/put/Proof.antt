@@ -46,8 +46,8 @@ loop-again c =
     let fits : a .at + at .i < length (a .out .now) = omega arith in (
       omega arith,
       ap (λ l. set l (a .at + at .i) (getD (a .text .now) (at .i) 0)) (at .inv .1)
-      ∙ paste-suc (a .out .now) (a .at) (a .text .now) (at .i) 0 fits (c .before .loop-test .taken)
-      ∙ ap (paste (a .out .now) (a .at) (a .text .now)) (sym (add-one (at .i))),
+          ∙ paste-suc (a .out .now) (a .at) (a .text .now) (at .i) 0 fits (c .before .loop-test .taken)
+          ∙ ap (paste (a .out .now) (a .at) (a .text .now)) (sym (add-one (at .i))),
     )
 
 add-result : tie.Need-add-result Inv-loop μ-loop

@@ -16,7 +16,7 @@ put-requires c κs = omega (arith, c .before .before .before .pre)
 
 put-number-requires : tie.Need-put-number-requires
 unfolding field
-put-number-requires c κs = 
+put-number-requires c κs =
     let p = c .before .before .before .put in
     omega (arith, p .ensures .place, p .kept .0, c .before .before .before .before .before .before .before .pre)
 

@@ -30,8 +30,13 @@ put-field-requires c κs =
     let at = c .before .before .before .loop in
     let st = c .before .before .before .before .before in
     let f = has (st .args .slots) in
-    omega (arith, at .inv .1 .place, slots-length f (at .s) (at .inv .0) (st .pre) (at .inv .1),
-      slot-room f (at .s) (eq-eqb _ _ (c .before .if1 .taken)) (c .before .before .loop-test .taken), st .pre)
+    omega (
+      arith,
+      at .inv .1 .place,
+      slots-length f (at .s) (at .inv .0) (st .pre) (at .inv .1),
+      slot-room f (at .s) (eq-eqb _ _ (c .before .if1 .taken)) (c .before .before .loop-test .taken),
+      st .pre,
+    )
 
 add-s : tie.Need-add-s Inv-loop μ-loop
 add-s c = omega arith
@@ -48,9 +53,9 @@ loop-again c =
     let below = c .before .loop-test .taken in (
       omega arith,
       ⊎-elim
-      (λ w. rw (w .5, w .6) (slot-yes f (at .s) (at .inv .1) (eq-eqb _ _ (w .0 .taken)) below (st .pre) (w .2 .ensures)))
-      (λ w. rw (w .1, w .2) (slot-no f (at .s) (at .inv .1) (ne-eqb _ _ (w .0 .left))))
-      (c .if1 .came),
+          (λ w. rw (w .5, w .6) (slot-yes f (at .s) (at .inv .1) (eq-eqb _ _ (w .0 .taken)) below (st .pre) (w .2 .ensures)))
+          (λ w. rw (w .1, w .2) (slot-no f (at .s) (at .inv .1) (ne-eqb _ _ (w .0 .left))))
+          (c .if1 .came),
     )
 
 same-length : tie.Need-same-length Inv-loop μ-loop
