@@ -1,77 +1,21 @@
--- Refusals. An order settles its number; 13 and 14 are tests on the whole of the free slots; and the inputs of bare
--- selection settle its answer.
-use mathlib.Core.Path.{_≡_, refl, sym, ap, _∙_}
-use mathlib.Core.List.{List, [], _∷_}
-use mathlib.Core.Logic.{inl, inr}
-use Prim.Native.Nat.{ℕ, _-_, _≤_, _<_}
+-- The answer of bare selection: 13 and 14 are tests on the whole of the free slots, and the inputs settle the answer.
+use mathlib.Core.Path.{_≡_, sym, ap, _∙_}
+use Prim.Native.Nat.{ℕ, _≤_, _<_}
 use native.Mathlib.Omega.{arith}
-use lib.ListN.{getD}
 use Rattle.rules.specs.declared.Wheel.{Wheel}
 use Rattle.rules.specs.declared.Grant.{Grant}
 use Rattle.rules.specs.declared.Selected.{Selected}
 use Rattle.rules.specs.declared.Selected.the-variants.{Chosen, Refused}
-use Rattle.rules.specs.declared.Refusal.{Refusal}
-use Rattle.rules.specs.declared.Refusal.the-variants.{BadWheel, BadTable, BadList, Disagree, PathLength, NoChannel, ChannelTwice, NoFlow, AlreadyOpen, NotOpen, NoWords, NoTime, TooMuch, TooFar, SlotBeyond}
 use Rattle.rules.specs.Wheels.{Legal, size, words, largestGap}
 use Rattle.rules.specs.Best.{Meets}
-use Rattle.rules.specs.Numbers.{number, Line, Refuses, Passes}
+use Rattle.rules.specs.Numbers.{number}
 use Rattle.rules.specs.Orders.{NoneDelivers, NoneMeets, selectOrder}
 use Rattle.rules.specs.Promises.{Grants, Selects}
 use Rattle.laws.specs.Sets.{within-self}
 use Rattle.laws.specs.Gaps.{largest-near, near-largest}
 use Rattle.laws.specs.Whole.{words-within, near-within, some-slot}
 use Rattle.laws.specs.Order.{best-unique}
-
--- ---- orders
-
-pub settled : (order : List Line) (k l : ℕ) → Refuses order k → Refuses order l → k ≡ l
-unfolding Refuses
-settled [] k l a b = absurd a
-settled (line ∷ rest) k l a b = go a b (λ p q. settled rest k l p q)
-  where
-    go : Refuses (line ∷ rest) k → Refuses (line ∷ rest) l → (Refuses rest k → Refuses rest l → k ≡ l) → k ≡ l
-    go (inl p) (inl q) ih = p .1 ∙ sym (q .1)
-    go (inl p) (inr q) ih = absurd (q .0 (p .0))
-    go (inr p) (inl q) ih = absurd (p .0 (q .0))
-    go (inr p) (inr q) ih = ih (p .1) (q .1)
-
-pub passes-not : (order : List Line) (k : ℕ) → Passes order → Refuses order k → ⊥
-unfolding Refuses Passes
-passes-not [] k p r = r
-passes-not (line ∷ rest) k p r = go p r (λ a b. passes-not rest k a b)
-  where
-    go : Passes (line ∷ rest) → Refuses (line ∷ rest) k → (Passes rest → Refuses rest k → ⊥) → ⊥
-    go p (inl q) ih = p .0 (q .0)
-    go p (inr q) ih = ih (p .1) (q .1)
-
--- the refusal of each number
-numbered : ℕ → Refusal
-numbered k =
-    getD
-    (BadWheel ∷ BadTable ∷ BadList ∷ Disagree ∷ PathLength ∷ NoChannel ∷ ChannelTwice ∷ NoFlow ∷ AlreadyOpen ∷ NotOpen ∷ NoWords ∷ NoTime ∷ TooMuch ∷ TooFar ∷ SlotBeyond ∷ [])
-    (k - 1)
-    BadWheel
-
-number-back : (r : Refusal) → numbered (number r) ≡ r
-unfolding numbered
-number-back BadWheel = refl
-number-back BadTable = refl
-number-back BadList = refl
-number-back Disagree = refl
-number-back PathLength = refl
-number-back NoChannel = refl
-number-back ChannelTwice = refl
-number-back NoFlow = refl
-number-back AlreadyOpen = refl
-number-back NotOpen = refl
-number-back NoWords = refl
-number-back NoTime = refl
-number-back TooMuch = refl
-number-back TooFar = refl
-number-back SlotBeyond = refl
-
-pub same-number : (r q : Refusal) → number r ≡ number q → r ≡ q
-same-number r q e = sym (number-back r) ∙ ap numbered e ∙ number-back q
+use Rattle.laws.specs.Refusals.{settled, passes-not, same-number}
 
 -- ---- 13 and 14 as tests on the whole of the free slots
 

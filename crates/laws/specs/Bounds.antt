@@ -31,7 +31,7 @@ module _ (w : Wheel) (legal : Legal w) (q : ℕ) (q64 : q ≤ 64) where
 
 -- ---- a set
 
-gain-most : (S H r : ℕ) → gain S H r ≤ S
+pub gain-most : (S H r : ℕ) → gain S H r ≤ S
 unfolding gain
 gain-most S H zero = omega arith
 gain-most S H (suc r) = omega arith

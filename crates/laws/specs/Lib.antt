@@ -9,6 +9,7 @@ pub mod Gaps
 pub mod Whole
 pub mod Bounds
 pub mod Order
+pub mod Refusals
 pub mod Answers
 pub mod Tests
 pub mod Bench

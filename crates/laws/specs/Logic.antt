@@ -28,6 +28,11 @@ pub not-true-false : (b : Bool) → ¬ (b ≡ true) → b ≡ false
 not-true-false true h = absurd (h refl)
 not-true-false false h = refl
 
+-- and one that is not false is true
+pub not-false-true : (b : Bool) → ¬ (b ≡ false) → b ≡ true
+not-false-true true h = refl
+not-false-true false h = absurd (h refl)
+
 -- a conjunction, taken apart
 pub and-true : (a b : Bool) → (a && b) ≡ true → (a ≡ true) × (b ≡ true)
 and-true true b e = (refl, e)

@@ -67,7 +67,7 @@ sub-flags f g e i (suc m) = go (f i) (g i) (e i) (sub-flags f g e (suc i) m)
     go false b e s = off s
 
 -- the next phase: one more, or 0 at the period's end
-next-case : (P r : ℕ) → r < P → ((suc r ≡ P) × (next P r ≡ 0)) ⊎ ((suc r < P) × (next P r ≡ suc r))
+pub next-case : (P r : ℕ) → r < P → ((suc r ≡ P) × (next P r ≡ 0)) ⊎ ((suc r < P) × (next P r ≡ suc r))
 unfolding next
 next-case P r h = go (eq-or-lt-of-le h)
   where

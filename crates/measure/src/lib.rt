@@ -52,7 +52,7 @@ pub fn below(x: u64, n: usize) -> bool
 }
 
 // Whether slot i is in the set x.
-fn has_slot(x: u64, i: usize) -> bool
+pub fn has_slot(x: u64, i: usize) -> bool
     requires { ⌜ i < 64 ⌝ }
     ensures { λ r. ⌜ r ≡ has x i ⌝ }
 {

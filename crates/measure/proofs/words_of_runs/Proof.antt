@@ -10,17 +10,27 @@ use Rattle.measure.proofs.words_of_runs.Statement.{statement}
 use Rattle.measure.proofs.words_of_runs.Tie as tie
 
 abbrev Inv-loop : tie.InvT-loop
-Inv-loop w x n total₀ i₀ total i = (i ≤ n) × (total ≤ 4096 * i) × (total ≡ sum (wordsAt w x) 0 i)
+Inv-loop w x n total₀ i₀ total i = (i ≤ n) × (total ≡ sum (wordsAt w x) 0 i) × (total ≤ 4096 * i)
 
 abbrev μ-loop : tie.MeasureT-loop
 μ-loop w x n total₀ i₀ total i = n - i
 
 loop-holds : tie.Need-loop-holds Inv-loop μ-loop
 unfolding sum
-loop-holds c = (omega arith, omega arith, refl)
+loop-holds c = (omega arith, refl, omega arith)
+
+loop-again : tie.Need-loop-again Inv-loop μ-loop
+loop-again c =
+    let st = c .before .before .before in
+    let at = c .before .before .loop in
+    let next = c .words-at .ensures in (
+      omega arith,
+      omega (arith, next, at .inv .1, sum-more (wordsAt (st .args .w) (st .args .x)) (at .i)),
+      omega (arith, next, wordsAt-most (st .args .w) (st .pre) (st .args .x) (at .i)),
+    )
 
 words-at-requires : tie.Need-words-at-requires Inv-loop μ-loop
-words-at-requires c κs = (c .before .before .pre, c .loop-test .taken)
+words-at-requires c κs = (c .before .before .pre, omega arith)
 
 add-total : tie.Need-add-total Inv-loop μ-loop
 add-total c =
@@ -33,21 +43,11 @@ add-i c = omega arith
 loop-less : tie.Need-loop-less Inv-loop μ-loop
 loop-less c = omega arith
 
-loop-again : tie.Need-loop-again Inv-loop μ-loop
-loop-again c =
-    let st = c .before .before .before in
-    let at = c .before .before .loop in
-    let next = c .words-at .ensures in (
-      omega arith,
-      omega (arith, next, wordsAt-most (st .args .w) (st .pre) (st .args .x) (at .i)),
-      omega (arith, next, at .inv .2, sum-more (wordsAt (st .args .w) (st .args .x)) (at .i)),
-    )
-
 returns : tie.Need-returns Inv-loop μ-loop
 returns c =
     let a = c .before .before .args in
     let all : c .before .loop .i ≡ a .w .n = omega arith in
-    c .before .loop .inv .2 ∙ ap (sum (wordsAt (a .w) (a .x)) 0) all
+    c .before .loop .inv .1 ∙ ap (sum (wordsAt (a .w) (a .x)) 0) all
 
 pub words-of-runs-spec : {M : Type 1} → statement M
 words-of-runs-spec =

@@ -1,0 +1,57 @@
+// The stack of a call: it runs on a painted stack of its own, and the lowest byte that it changed is its use. Two paints
+// are used in turn, since no byte that is written can equal both.
+#define _GNU_SOURCE
+#include "../include/jellyspire.h"
+#include <stdio.h>
+#include <string.h>
+#include <sys/mman.h>
+#include <ucontext.h>
+
+#define ROOM (256 * 1024)
+
+static ucontext_t back, on_paint;
+static volatile uint64_t sink;
+
+static void nothing(void) {}
+
+static void select_call(void)
+{
+    jellyspire_wheel w = {64, 3, 1, 3};
+    sink = jellyspire_select(w, 0xfffffffffffffdffu, 60, 64).slots;
+}
+
+static size_t used(void (*call)(void))
+{
+    uint8_t *room = mmap(0, ROOM, PROT_READ | PROT_WRITE, MAP_PRIVATE | MAP_ANONYMOUS, -1, 0);
+    size_t most = 0;
+    for (int pass = 0; pass < 2; pass++) {
+        uint8_t paint = pass ? 0x5a : 0xa5;
+        memset(room, paint, ROOM);
+        getcontext(&on_paint);
+        on_paint.uc_stack.ss_sp = room;
+        on_paint.uc_stack.ss_size = ROOM;
+        on_paint.uc_link = &back;
+        makecontext(&on_paint, call, 0);
+        swapcontext(&back, &on_paint);
+        size_t i = 0;
+        while (i < ROOM && room[i] == paint)
+            i++;
+        if (most < ROOM - i)
+            most = ROOM - i;
+    }
+    munmap(room, ROOM);
+    return most;
+}
+
+int main(void)
+{
+    struct {
+        const char *name;
+        void (*call)(void);
+    } calls[] = {{"select", select_call}};
+    size_t harness = used(nothing);
+    printf("stack of one call, all scratch memory included (the harness's own %zu bytes are taken off)\n", harness);
+    for (size_t i = 0; i < sizeof calls / sizeof *calls; i++)
+        printf("%-8s %6zu bytes\n", calls[i].name, used(calls[i].call) - harness);
+    return 0;
+}

@@ -1,0 +1,105 @@
+-- What opening, closing and the report promise when they see one record of the list and are told of the rest only whether
+-- it agrees with the table. The orders are those of `rules`, with `agreed` in 4's place and the record's state in 9's and 10's.
+use mathlib.Core.Path.{_≡_}
+use mathlib.Core.Bool.{Bool, true, false}
+use mathlib.Core.List.{List, [], _∷_}
+use mathlib.Core.Logic.{_⊎_}
+use Prim.Native.Nat.{ℕ, _-_, _*_, _≤_, _<_}
+use Rattle.rules.specs.declared.Wheel.{Wheel}
+use Rattle.rules.specs.declared.Demand.{Demand}
+use Rattle.rules.specs.declared.State.{State}
+use Rattle.rules.specs.declared.Record.{Record}
+use Rattle.rules.specs.declared.Opened.{Opened}
+use Rattle.rules.specs.declared.Opened.the-variants as opened
+use Rattle.rules.specs.declared.Cleared.{Cleared}
+use Rattle.rules.specs.declared.Cleared.the-variants as cleared
+use Rattle.rules.specs.declared.Reported.{Reported}
+use Rattle.rules.specs.declared.Reported.the-variants as reported
+use Rattle.rules.specs.Wheels.{Legal, size}
+use Rattle.rules.specs.Paths.{Chip, travel, allowed, freeSlots, Inside, Once, Stamped}
+use Rattle.rules.specs.Flows.{claiming, cellsOf}
+use Rattle.rules.specs.Numbers.{number, Line, line, Refuses, Passes}
+use Rattle.rules.specs.Orders.{Tabled, Listed, NoneDelivers, NoneMeets}
+use Rattle.rules.specs.Promises.{Grants, openRecord, closedRecord}
+use Rattle.agree.specs.Checks.{Ready}
+use Rattle.core.specs.declared.Gate.{Gate}
+use Rattle.core.specs.declared.Gate.the-variants as gate
+use Rattle.core.specs.declared.Opening.{Opening}
+use Rattle.core.specs.declared.Closing.{Closing}
+
+-- lines 8 and 10 of a closing, behind the gate
+abbrev pub flowLines : ℕ → State → ℕ → List Line
+flowLines n s f = line 8 ((f ≡ 0) ⊎ (n < f)) ∷ line 10 (claiming s ≡ false) ∷ []
+
+unfoldable pub DecidesFlow : Wheel → ℕ → Record → ℕ → Cleared → Type 0
+DecidesFlow w n r f (cleared.Cells k) = Passes (flowLines n (r .state) f) × (k ≡ size (w .n) (r .slots) * r .len)
+DecidesFlow w n r f (cleared.Refused q) = Refuses (flowLines n (r .state) f) (number q)
+
+module _ (chip : Chip) (t : List ℕ) (n : ℕ) (agreed : Bool) where
+  abbrev pub checkedLines : List Line → List Line
+  checkedLines rest = line 1 (¬ Legal (chip .wheel)) ∷ line 2 (¬ Tabled chip t) ∷ line 3 (¬ Listed n) ∷ line 4 (agreed ≡ false) ∷ rest
+
+  -- the four lines with which every call begins
+  unfoldable pub Gates : Gate → Type 0
+  Gates (gate.Shut r) = Refuses (checkedLines []) (number r)
+  Gates gate.Through = Ready chip t n × (agreed ≡ true)
+
+  abbrev pub openLines : State → List ℕ → ℕ → ℕ → Demand → List Line
+  openLines s path m f d =
+      checkedLines
+      (line 5 ((m ≡ 0) ⊎ (16 < m))
+      ∷ line 6 (¬ Inside chip path m)
+      ∷ line 7 (¬ Once path m)
+      ∷ line 8 ((f ≡ 0) ⊎ (n < f))
+      ∷ line 9 (claiming s ≡ true)
+      ∷ line 11 (d .words .0 ≡ 0)
+      ∷ line 12 (d .deadline ≤ travel chip path m)
+      ∷ line 13 (NoneDelivers (chip .wheel) (freeSlots chip t path m) (d .words .0))
+      ∷ line 14 (NoneMeets (chip .wheel) (freeSlots chip t path m) (d .words .0) (allowed chip path m (d .deadline)))
+      ∷ [])
+
+  abbrev pub closeLines : State → ℕ → List Line
+  closeLines s f = checkedLines (flowLines n s f)
+
+  abbrev pub reportLines : List Line
+  reportLines = checkedLines []
+
+  -- ---- opening
+
+  -- the decision, before anything is written
+  unfoldable pub DecidesOpen : State → List ℕ → ℕ → ℕ → Demand → Opened → Type 0
+  DecidesOpen s path m f d (opened.Granted g) =
+      Passes (openLines s path m f d)
+      × Grants (chip .wheel) (freeSlots chip t path m) (d .words .0) (allowed chip path m (d .deadline)) g
+  DecidesOpen s path m f d (opened.Refused r) = Refuses (openLines s path m f d) (number r)
+
+  -- what is written after it
+  unfoldable pub WritesOpen : List ℕ → ℕ → ℕ → Demand → List ℕ → Opened → Opening → Type 0
+  WritesOpen path m f d t′ (opened.Granted g) o =
+      (o .go ≡ true) × (o .at ≡ f - 1) × (o .record ≡ openRecord path m (g .slots) d) × Stamped chip path m (g .slots) f t t′
+  WritesOpen path m f d t′ (opened.Refused r) o = (o .go ≡ false) × (t′ ≡ t)
+
+  pub record OpensOne (s : State) (path : List ℕ) (m f : ℕ) (d : Demand) (t′ : List ℕ) (o : Opening) : Type 0 where
+    pub decides : DecidesOpen s path m f d (o .answer)
+    pub writes : WritesOpen path m f d t′ (o .answer) o
+
+  -- ---- closing
+
+  unfoldable pub DecidesClose : Record → ℕ → Cleared → Type 0
+  DecidesClose r f (cleared.Cells k) = Passes (closeLines (r .state) f) × (k ≡ cellsOf chip r)
+  DecidesClose r f (cleared.Refused q) = Refuses (closeLines (r .state) f) (number q)
+
+  unfoldable pub WritesClose : Record → ℕ → List ℕ → Cleared → Closing → Type 0
+  WritesClose r f t′ (cleared.Cells k) o =
+      (o .go ≡ true) × (o .at ≡ f - 1) × (o .record ≡ closedRecord) × Stamped chip (r .path) (r .len) (r .slots) 0 t t′
+  WritesClose r f t′ (cleared.Refused q) o = (o .go ≡ false) × (t′ ≡ t)
+
+  pub record ClosesOne (r : Record) (f : ℕ) (t′ : List ℕ) (o : Closing) : Type 0 where
+    pub decides : DecidesClose r f (o .answer)
+    pub writes : WritesClose r f t′ (o .answer) o
+
+  -- ---- the report, from the number of cells that the records claim
+
+  unfoldable pub ReportsOne : ℕ → Reported → Type 0
+  ReportsOne held (reported.Counted c) = Passes reportLines × (c .held ≡ held) × (c .free ≡ chip .channels * chip .wheel .n - held)
+  ReportsOne held (reported.Refused q) = Refuses reportLines (number q)

@@ -1,0 +1,226 @@
+// The engine of selection: the best set of free slots, by a search over the starts. At each start
+// the wheel is a line whose tables say what it is worth; a start that by a simple bound cannot win
+// is passed over, and a later start wins only if it is strictly better.
+ghost use mathlib.Core.Path.{_≡_};
+ghost use mathlib.Core.Bool.{true, false};
+ghost use mathlib.Core.Logic.{_⊎_};
+ghost use Prim.Native.Nat.{ℕ, _+_, _-_, _*_, _<_, _≤_};
+ghost use lib.ListN.{length, getD};
+ghost use Rattle.rules.specs.Wheels.{Legal, words};
+ghost use Rattle.rules.specs.Promises.{Grants};
+ghost use Rattle.line.specs.Tables.{Sound};
+ghost use Rattle.line.specs.Bound.{Paid};
+ghost use Rattle.optimum.specs.Search.{Sofar, Short, Hopeless};
+ghost use Rattle.optimum.specs.Answer.{Asked};
+use line::Task;
+use optimum::Found;
+use rules::Grant;
+use rules::PathSlot;
+use rules::Wheel;
+use rules::Words;
+
+// a / b, rounded up.
+fn ceil_div(a: usize, b: usize) -> usize
+    requires { ⌜ (1 ≤ b) × (b ≤ 64) × (a ≤ 128) ⌝ }
+    ensures { λ r. ⌜ (r ≤ 192) × ((c : ℕ) → a ≤ c * b → r ≤ c) ⌝ }
+{
+    (a + b - 1) / b
+}
+
+// So many headers at least are paid by k slots whose first packet has at most f: each brings at
+// most P slots, and each but the first is needed for a gap.
+fn least_headers(task: Task, f: usize, k: usize) -> usize
+    requires { ⌜ Sound task ⌝ }
+    requires { ⌜ k ≤ task .wheel .n ⌝ }
+    ensures { λ r. ⌜ (r ≤ 192) × ((c : ℕ) → k + (task .wheel .p - f) ≤ c * task .wheel .p → task .wheel .n ≤ k + c * (task .limit - 1) → r ≤ c) ⌝ }
+{
+    let period = task.wheel.p;
+    let first = tables::smaller(f, period);
+    let for_slots = ceil_div(k + (period - first), period);
+    if task.limit < 2 {
+        return for_slots;
+    }
+    let for_gaps = ceil_div(task.wheel.n - k, task.limit - 1);
+    if for_slots < for_gaps {
+        for_gaps
+    } else {
+        for_slots
+    }
+}
+
+// No k slots whose first packet has at most f deliver more words than this.
+fn most_words(task: Task, f: usize, k: usize) -> u16
+    requires { ⌜ Sound task ⌝ }
+    requires { ⌜ k ≤ task .wheel .n ⌝ }
+    ensures { λ r. ⌜ ((v : ℕ) → Paid task f k v → v ≤ r) ⌝ }
+{
+    let all = (k as u16) * task.wheel.s.0;
+    let paid = (least_headers(task, f, k) as u16) * task.wheel.h.0;
+    if paid < all { all - paid } else { 0 }
+}
+
+// The fewest slots, from `from` on, that by the bound may deliver the words; `end` or more where
+// none before does.
+fn fewest(task: Task, f: usize, from: usize, end: usize) -> usize
+    requires { ⌜ Sound task ⌝ }
+    requires { ⌜ (end ≤ task .wheel .n) × Short task f from ⌝ }
+    ensures { λ r. ⌜ Short task f r ⌝ }
+{
+    let mut k = from;
+    while k < end {
+        if task.words.0 <= most_words(task, f, k) {
+            return k;
+        }
+        k += 1;
+    }
+    k
+}
+
+// Whether by the bound no start whose free run has at most f slots does better than `best`, where
+// fewer than `least` slots never deliver the words.
+fn hopeless(task: Task, f: usize, least: usize, best: Found) -> bool
+    requires { ⌜ Sound task ⌝ }
+    requires { ⌜ (best .count ≤ task .wheel .n) × Short task f least ⌝ }
+    ensures { λ r. ⌜ (r ≡ true → Hopeless task f best) ⌝ }
+{
+    let count = best.count;
+    if fewest(task, f, least, count) < count {
+        return false;
+    }
+    if task.wheel.n <= count {
+        return true;
+    }
+    most_words(task, f, count) < best.value
+}
+
+// The fewest slots, up to `cap`, that are worth more than `words`; cap + 1 where there are none.
+fn first_over(heads: &[u16], cap: usize, words: u16) -> usize
+    requires { do ⌜ (cap < 64) × ((← ⟦heads.len()⟧) ≡ 4096) ⌝ }
+    ensures { λ r. ⌜ (r ≤ cap + 1) × ((j : ℕ) → j < r → getD (now (heads .entry)) j 0 ≤ words) × (r ≤ cap → words < getD (now (heads .entry)) r 0) ⌝ }
+{
+    let mut k = 0;
+    while k <= cap {
+        if words < heads[k] {
+            return k;
+        }
+        k += 1;
+    }
+    k
+}
+
+// Whether k slots of the value v do better than `best`.
+fn improves(k: usize, v: u16, best: Found) -> bool
+    requires { ⌜ k ≤ best .count ⌝ }
+    ensures { λ r. ⌜ (r ≡ true → (k < best .count) ⊎ ((k ≡ best .count) × (best .value < v))) × (r ≡ false → (k ≡ best .count) × (v ≤ best .value)) ⌝ }
+{
+    if k < best.count {
+        return true;
+    }
+    best.value < v
+}
+
+// The best of the starts so far with one more start taken into account.
+fn try_start(
+    heads: &mut [u16],
+    tails: &mut [u16],
+    task: Task,
+    start: PathSlot,
+    least: usize,
+    best: Found,
+) -> Found
+    requires { ⌜ Sound task ⌝ }
+    requires { do ⌜ (start .0 < task .wheel .n) × ((← ⟦heads.len()⟧) ≡ 4096) × ((← ⟦tails.len()⟧) ≡ 4096) ⌝ }
+    requires { ⌜ Short task (task .wheel .p) least × Sofar task (start .0) best ⌝ }
+    ensures { λ r. ⌜ Sofar task (start .0 + 1) r ⌝ }
+{
+    let f = tables::free_run(task, start, 0);
+    if f == 0 {
+        return best;
+    }
+    if hopeless(task, f, least, best) {
+        return best;
+    }
+    let cap = tables::smaller(best.count, task.wheel.n - 1);
+    tables::fill(heads, tails, task, start, cap);
+    let k = first_over(heads, cap, task.words.0);
+    if cap < k {
+        return best;
+    }
+    let v = heads[k];
+    if !improves(k, v, best) {
+        return best;
+    }
+    let slots = rebuild::rebuild(heads, tails, task, start, k);
+    Found {
+        count: k,
+        value: v,
+        start: start,
+        slots: slots,
+    }
+}
+
+// The best of all starts.
+fn search(heads: &mut [u16], tails: &mut [u16], task: Task) -> Found
+    requires { ⌜ Sound task ⌝ }
+    requires { do ⌜ ((← ⟦heads.len()⟧) ≡ 4096) × ((← ⟦tails.len()⟧) ≡ 4096) ⌝ }
+    ensures { λ r. ⌜ Sofar task (task .wheel .n) r ⌝ }
+{
+    let n = task.wheel.n;
+    let period = task.wheel.p;
+    let least = fewest(task, period, 0, n);
+    let mut best = Found {
+        count: n,
+        value: 0,
+        start: PathSlot(0),
+        slots: 0,
+    };
+    let mut t = 0;
+    while t < n {
+        if hopeless(task, period, least, best) {
+            return best;
+        }
+        best = try_start(heads, tails, task, PathSlot(t), least, best);
+        t += 1;
+    }
+    best
+}
+
+// All free slots, where they are the whole wheel.
+fn whole(w: Wheel, free: u64) -> Grant
+    requires { ⌜ Legal w ⌝ }
+    ensures { λ r. ⌜ (r .slots ≡ free) × (r .count ≡ w .n) × (r .words .0 ≡ words w free) ⌝ }
+{
+    Grant {
+        slots: free,
+        count: w.n,
+        words: measure::words(w, free),
+    }
+}
+
+// The best set of free slots (rule 6), for a demand that all free slots together meet.
+pub fn best(w: Wheel, free: u64, words: Words, limit: u16) -> Grant
+    requires { ⌜ Asked w free (words .0) limit ⌝ }
+    ensures { λ r. ⌜ Grants w free (words .0) limit r ⌝ }
+{
+    let n = w.n;
+    if n < 2 {
+        return whole(w, free);
+    }
+    let task = Task {
+        wheel: w,
+        free: free,
+        words: words,
+        limit: tables::smaller(limit as usize, n),
+    };
+    let mut heads: [u16; 4096] = [0; 4096];
+    let mut tails: [u16; 4096] = [0; 4096];
+    let found = search(&mut heads, &mut tails, task);
+    if found.value == 0 {
+        return whole(w, free);
+    }
+    Grant {
+        slots: found.slots,
+        count: found.count,
+        words: Words(found.value - 1),
+    }
+}
