@@ -1,21 +1,18 @@
 -- On the default wheel a grant has slots below 8: they are free slots of the path, and those are slots of the wheel.
+use mathlib.Core.Path.{_≡_}
+use mathlib.Core.Bool.{Bool, true}
 use mathlib.Core.List.{List}
-use Prim.Native.Nat.{ℕ}
-use native.Mathlib.Omega.{arith}
+use mathlib.Core.Logic.{_⊎_, inl, inr}
+use Prim.Native.Nat.{ℕ, _≤_, _<_}
 use Rattle.rules.specs.declared.Demand.{Demand}
 use Rattle.rules.specs.declared.Record.{Record}
 use Rattle.rules.specs.declared.Grant.{Grant}
 use Rattle.rules.specs.declared.Opened.the-variants as opened
-use Rattle.rules.specs.Sets.{Below, setOf}
+use Rattle.rules.specs.Sets.{has, Below, setOf}
 use Rattle.rules.specs.Paths.{chipOf, free, freeSlots}
 use Rattle.rules.specs.Promises.{Opens}
 use Rattle.laws.specs.Logic.{not-both, le-or-lt}
 use Rattle.laws.specs.Sets.{has-set-over, within-below}
-use mathlib.Core.Path.{_≡_}
-use mathlib.Core.Bool.{true, Bool}
-use mathlib.Core.Logic.{_⊎_, inl, inr}
-use Prim.Native.Nat.{_≤_, _<_}
-use Rattle.rules.specs.Sets.{has}
 use Rattle.listing.specs.Listing.{wheel}
 
 set-below : (f : ℕ → Bool) (n : ℕ) → Below n (setOf f 0 n)

@@ -3,3 +3,4 @@ pub mod Below
 pub mod Short
 pub mod Lines
 pub mod Runs
+pub mod Settles

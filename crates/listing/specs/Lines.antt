@@ -14,7 +14,7 @@ use Rattle.grammar.specs.Commands.{opening, closing, reporting, Reads, Bad}
 use Rattle.printing.specs.Puts.{Puts, puts-then}
 use Rattle.reading.specs.declared.Parsed.{Parsed}
 use Rattle.reading.specs.Meaning.{Opening}
-use Rattle.stand.specs.Like.{OpensLike as Opens, ClosesLike as Closes, ReportsLike as Reports}
+use Rattle.rules.specs.Promises.{Opens, Closes, Reports}
 use Rattle.listing.specs.Listing.{wheel, State, Step, opens, closes, reports, bad}
 use Rattle.listing.specs.Short.{open-short, close-short, report-short, bad-short, reads-long}
 

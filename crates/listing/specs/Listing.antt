@@ -11,8 +11,7 @@ use Rattle.rules.specs.declared.Reported.{Reported}
 use Rattle.rules.specs.Sets.{listOf}
 use Rattle.rules.specs.Paths.{chipOf}
 use Rattle.rules.specs.Flows.{none}
-use Rattle.rules.specs.Promises.{trimmed, closedRecord}
-use Rattle.stand.specs.Like.{OpensLike as Opens, ClosesLike as Closes, ReportsLike as Reports}
+use Rattle.rules.specs.Promises.{trimmed, closedRecord, Opens, Closes, Reports}
 use Rattle.grammar.specs.Text.{lines}
 use Rattle.grammar.specs.Answers.{openText, closeText, reportText, badText, longText}
 use Rattle.grammar.specs.Commands.{opening, closing, reporting, Reads, Bad}

@@ -14,15 +14,16 @@ use Rattle.rules.specs.declared.Cleared.{Cleared}
 use Rattle.rules.specs.declared.Cleared.the-variants as cleared
 use Rattle.rules.specs.declared.Reported.{Reported}
 use Rattle.rules.specs.declared.Reported.the-variants as reported
-use Rattle.rules.specs.Sets.{has, places, Below, listOf}
+use Rattle.rules.specs.Sets.{has, places, listOf}
 use Rattle.rules.specs.Numbers.{number}
 use Rattle.rules.specs.Paths.{chipOf}
 use Rattle.grammar.specs.Text.{ascii, decimal, field, fields}
 use Rattle.grammar.specs.Commands.{Command, opening, closing, reporting, spelled, Reads}
 use Rattle.grammar.specs.Answers.{openText, closeText, reportText, badText}
 use Rattle.grammar.specs.Decimals.{bound, decimal-long, decimal-short}
-use Rattle.stand.specs.Like.{OpensLike as Opens}
+use Rattle.rules.specs.Promises.{Opens}
 use Rattle.listing.specs.Listing.{wheel}
+use Rattle.listing.specs.Below.{granted-below}
 
 field-long : (n : ℕ) → length (field n) ≤ 21
 unfolding field
@@ -49,10 +50,10 @@ slots-short f below i (suc m) = go (f i) refl (slots-short f below (suc i) m)
 
 module _ (t : List ℕ) (list : List Record) (path : List ℕ) (m f : ℕ) (d : Demand) (t′ : List ℕ) (list′ : List Record) where
   pub open-short : (a : Opened) → Opens (chipOf wheel t) t 16 list path m f d t′ list′ a → length (openText f a) ≤ 83
-  unfolding openText ascii listOf Opens
+  unfolding openText ascii listOf
   open-short (opened.Granted g) o =
       simp length-append
-      (omega (arith, field-long f, field-long (g .words .0), slots-short (has (g .slots)) (λ s h. o .below s h) 0 64))
+      (omega (arith, field-long f, field-long (g .words .0), slots-short (has (g .slots)) (granted-below t list path m f d t′ list′ g o .below) 0 64))
   open-short (opened.Refused r) o = simp length-append (omega (arith, field-long f, field-long (number r)))
 
 pub close-short : (f : ℕ) (a : Cleared) → length (closeText f a) ≤ 83
