@@ -18,8 +18,15 @@ use Rattle.grammar.specs.Answers.{openText, closeText, reportText}
 unfoldable pub refusalTail : Refusal → List ℕ
 refusalTail r = ascii " refused" ++ field (number r)
 
+-- the slots of a set
+abbrev pub slotsText : ℕ → List ℕ
+slotsText slots = fields (places (has slots) 0 64)
+
+abbrev pub wordsText : ℕ → List ℕ
+wordsText n = ascii " words" ++ field n
+
 unfoldable pub grantTail : Grant → List ℕ
-grantTail g = ascii " slots" ++ fields (places (has (g .slots)) 0 64) ++ (ascii " words" ++ field (g .words .0))
+grantTail g = (ascii " slots" ++ slotsText (g .slots)) ++ wordsText (g .words .0)
 
 unfoldable pub openTail : Opened → List ℕ
 openTail (opened.Granted g) = grantTail g

@@ -105,6 +105,13 @@ fn put_refusal(out: &mut [u8], at: usize, r: Refusal) -> usize
     put_labelled(out, at, b" refused", number_of(r))
 }
 
+// The words that a grant delivers.
+fn words_of(g: Grant) -> usize
+    ensures { λ r. ⌜ r ≡ g .words .0 ⌝ }
+{
+    g.words.0 as usize
+}
+
 // A grant, behind the verb and the flow.
 fn put_grant(out: &mut [u8], at: usize, g: Grant) -> usize
     requires { ⌜ at + length (grantTail g) ≤ length (now out) ⌝ }
@@ -112,7 +119,7 @@ fn put_grant(out: &mut [u8], at: usize, g: Grant) -> usize
 {
     let slots = put(out, at, b" slots");
     let words = put_slots(out, slots, g.slots);
-    put_labelled(out, words, b" words", g.words.0 as usize)
+    put_labelled(out, words, b" words", words_of(g))
 }
 
 // What opening answers, behind the verb and the flow.
