@@ -1,11 +1,11 @@
 -- Text written into a buffer at a place: what stood before it stays, then the text, and the rest stays.
-use mathlib.Core.Path.{_≡_, refl, sym, ap, _∙_}
-use mathlib.Core.List.{List, [], _∷_, _++_, append-assoc}
+use mathlib.Core.Path.{_≡_, sym, ap, _∙_}
+use mathlib.Core.List.{List, [], _++_, append-assoc}
 use Prim.Native.Nat.{ℕ, _+_, _≤_}
 use native.Mathlib.Omega.{arith}
 use native.Mathlib.Nat.{add-zero}
 use lib.ListN.{length, take, drop, length-append, length-take, length-drop, take-append-drop}
-use lib.Seq.{take-at, drop-at, length-take-le, drop-drop, take-append-le}
+use lib.Seq.{take-at, drop-at, drop-drop}
 
 unfoldable pub written : List ℕ → ℕ → List ℕ → List ℕ
 written old at text = take at old ++ (text ++ drop (at + length text) old)

@@ -9,12 +9,12 @@ use Rattle.rules.specs.declared.Opened.{Opened}
 use Rattle.rules.specs.declared.Cleared.{Cleared}
 use Rattle.rules.specs.declared.Reported.{Reported}
 use Rattle.rules.specs.Paths.{chipOf}
+use Rattle.rules.specs.Promises.{Opens, Closes, Reports}
 use Rattle.grammar.specs.Answers.{openText, closeText, reportText, badText}
 use Rattle.grammar.specs.Commands.{opening, closing, reporting, Reads, Bad}
-use Rattle.printing.specs.Puts.{Puts, puts-then}
 use Rattle.reading.specs.declared.Parsed.{Parsed}
 use Rattle.reading.specs.Meaning.{Opening}
-use Rattle.rules.specs.Promises.{Opens, Closes, Reports}
+use Rattle.printing.specs.Puts.{Puts, puts-then}
 use Rattle.listing.specs.Listing.{wheel, State, Step, opens, closes, reports, bad}
 use Rattle.listing.specs.Short.{open-short, close-short, report-short, bad-short, reads-long}
 

@@ -2,7 +2,7 @@
 -- reached, is what all lines print; at the end nothing is left.
 use mathlib.Core.Path.{_≡_, refl, sym, ap, _∙_, subst}
 use mathlib.Core.List.{List, [], _∷_, _++_, append-assoc, append-nil}
-use Prim.Native.Nat.{ℕ, _+_, _-_, _*_, _≤_, _<_, max}
+use Prim.Native.Nat.{ℕ, _+_, _-_, _*_, _≤_, _<_}
 use native.Mathlib.Omega.{arith}
 use lib.ListN.{length, take, drop, length-append, length-take, drop-of-length-le, replicate, length-replicate, getD-replicate}
 use lib.Seq.{drop-drop}
@@ -12,9 +12,9 @@ use Rattle.rules.specs.Promises.{closedRecord}
 use Rattle.grammar.specs.Text.{lines, ascii}
 use Rattle.grammar.specs.Answers.{longText}
 use Rattle.grammar.specs.Writing.{written-take, written-drop}
-use Rattle.printing.specs.Puts.{Puts, puts-length}
 use Rattle.reading.specs.declared.Span.{Span}
 use Rattle.reading.specs.Meaning.{Next}
+use Rattle.printing.specs.Puts.{Puts, puts-length}
 use Rattle.listing.specs.Listing.{State, Step, Prints, end, next, Fresh, Writes}
 use Rattle.listing.specs.Lines.{Fed}
 

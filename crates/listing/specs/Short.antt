@@ -1,9 +1,9 @@
 -- How long the texts are: no line that asks for something gets more than 83 bytes, and it has at least 6 itself; a bad
 -- line gets at most 13. So a line feed counted in, no line gets more than 14 bytes for each of its own.
-use mathlib.Core.Path.{_≡_, refl, sym, ap, _∙_}
+use mathlib.Core.Path.{_≡_, refl, ap}
 use mathlib.Core.Bool.{Bool, true, false, cond}
-use mathlib.Core.List.{List, [], _∷_, _++_}
-use Prim.Native.Nat.{ℕ, zero, suc, _+_, _-_, _*_, _≤_, _<_}
+use mathlib.Core.List.{List, _∷_}
+use Prim.Native.Nat.{ℕ, zero, suc, _-_, _*_, _≤_, _<_}
 use native.Mathlib.Omega.{arith}
 use lib.ListN.{length, length-append}
 use Rattle.rules.specs.declared.Demand.{Demand}
@@ -17,11 +17,11 @@ use Rattle.rules.specs.declared.Reported.the-variants as reported
 use Rattle.rules.specs.Sets.{has, places, listOf}
 use Rattle.rules.specs.Numbers.{number}
 use Rattle.rules.specs.Paths.{chipOf}
+use Rattle.rules.specs.Promises.{Opens}
 use Rattle.grammar.specs.Text.{ascii, decimal, field, fields}
 use Rattle.grammar.specs.Commands.{Command, opening, closing, reporting, spelled, Reads}
 use Rattle.grammar.specs.Answers.{openText, closeText, reportText, badText}
 use Rattle.grammar.specs.Decimals.{bound, decimal-long, decimal-short}
-use Rattle.rules.specs.Promises.{Opens}
 use Rattle.listing.specs.Listing.{wheel}
 use Rattle.listing.specs.Below.{granted-below}
 

@@ -1,7 +1,7 @@
 // The listing program's work: from the bytes that it reads to the bytes that it prints. Table and
 // list start empty; every line is read, carried out and answered before the next.
 ghost use mathlib.Core.Path.{_≡_};
-ghost use Prim.Native.Nat.{ℕ, _+_, _*_, _≤_, _<_};
+ghost use Prim.Native.Nat.{_+_, _*_, _≤_, _<_};
 ghost use lib.ListN.{length};
 ghost use Rattle.rules.specs.Sets.{listOf};
 ghost use Rattle.rules.specs.Promises.{closedRecord};

@@ -1,5 +1,5 @@
 -- The slots of a set, printed one by one in rising order.
-use mathlib.Core.Path.{_≡_, refl, sym, ap, _∙_}
+use mathlib.Core.Path.{_≡_, sym, ap, _∙_}
 use mathlib.Core.Bool.{Bool, true, false, cond}
 use mathlib.Core.List.{List, [], _∷_, _++_, append-nil}
 use Prim.Native.Nat.{ℕ, zero, suc, _+_, _≤_, _<_}
@@ -7,7 +7,7 @@ use native.Mathlib.Omega.{arith}
 use native.Mathlib.Nat.{add-zero, zero-add, add-suc, suc-add}
 use native.Mathlib.Numerals.{add-one}
 use lib.ListN.{length, length-append}
-use Rattle.rules.specs.Sets.{has, places}
+use Rattle.rules.specs.Sets.{places}
 use Rattle.grammar.specs.Text.{field, fields}
 use Rattle.grammar.specs.Spelling.{fields-append}
 use Rattle.printing.specs.Puts.{Puts, puts-then, puts-length}

@@ -3,14 +3,13 @@
 use mathlib.Core.Path.{_≡_, refl, sym, ap, _∙_, subst}
 use mathlib.Core.Bool.{true, false}
 use mathlib.Core.List.{List, [], _∷_, _++_, append-nil}
-use Prim.Native.Nat.{ℕ, suc, _+_, _≤_, _<_}
+use Prim.Native.Nat.{ℕ, _+_, _≤_, _<_}
 use native.Mathlib.Omega.{arith}
 use native.Mathlib.Numerals.{add-one}
-use lib.ListN.{length, getD, take, drop, set, length-set, length-append, drop-of-length-le}
+use lib.ListN.{length, getD, take, drop, set, length-set, drop-of-length-le}
 use lib.Seq.{drop-cons, take-suc-set}
 use Rattle.grammar.specs.Text.{decimal, field, fields}
 use Rattle.grammar.specs.Commands.{Few}
-use Rattle.grammar.specs.Decimals.{leading}
 use Rattle.grammar.specs.Spelling.{few-none, few-head, few-tail, few-more, fields-more, fields-begin, take-field}
 use Rattle.reading.specs.Meaning.{NumberAt, NoNumber, FieldsAt, NoFields, Split}
 use Rattle.reading.specs.declared.Fields.{Fields}

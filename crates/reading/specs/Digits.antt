@@ -8,13 +8,13 @@ use Prim.Native.Nat.{ℕ, suc, _+_, _-_, _*_, _≤_, _<_}
 use native.Mathlib.Omega.{arith}
 use native.Mathlib.Nat.{eq-or-lt-of-le}
 use native.Mathlib.Numerals.{add-one}
-use lib.Dec.{ltb}
 use borrow.Author.Tests.{ltb-false}
+use lib.Dec.{ltb}
 use lib.ListN.{length, getD, drop, drop-of-length-le}
 use lib.Seq.{drop-cons}
 use Rattle.laws.specs.Logic.{le-or-lt}
 use Rattle.grammar.specs.Text.{decimal}
-use Rattle.grammar.specs.Decimals.{digit, leading, digit-is, digit-byte, value, value-end, value-grows, value-digit, decimal-value, decimal-one, decimal-more, decimal-begins, decimal-zero, decimal-cut}
+use Rattle.grammar.specs.Decimals.{digit, leading, digit-is, digit-byte, value, value-end, value-grows, value-digit, decimal-value, decimal-one, decimal-more, decimal-begins, decimal-zero}
 use Rattle.reading.specs.Meaning.{NumberAt, NoNumber, Numbered}
 use Rattle.reading.specs.declared.Number.{Number}
 
@@ -74,7 +74,7 @@ module _ (line : List ℕ) where
     longer : drop at line ≡ decimal v ++ ((48 + d) ∷ drop (next + 1) line)
     longer = r .split ∙ ap (λ xs. decimal v ++ xs) (digit-cons next d is h)
 
-    pub next-digit : (v ≡ 0 → ⊥) → v * 10 + d ≤ 65535 → Sofar line at (v * 10 + d) (next + 1)
+    pub next-digit : 0 < v → v * 10 + d ≤ 65535 → Sofar line at (v * 10 + d) (next + 1)
     next-digit p s = record {
       small = s;
       on = omega arith;
@@ -82,7 +82,7 @@ module _ (line : List ℕ) where
       split =
           longer
           ∙ sym
-          (ap (λ xs. xs ++ drop (next + 1) line) (decimal-more v d (omega arith) (r .small) h)
+          (ap (λ xs. xs ++ drop (next + 1) line) (decimal-more v d p (r .small) h)
           ∙ append-assoc (decimal v) ((48 + d) ∷ []) (drop (next + 1) line));
     }
 

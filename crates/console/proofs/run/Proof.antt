@@ -1,7 +1,7 @@
 -- What is printed is the start of the buffer, as long as the listing says.
 use mathlib.Core.Path.{sym}
-use lib.Seq.{length-take-le}
 use borrow.Author.Needs.{needs}
+use lib.Seq.{length-take-le}
 use Rattle.console.proofs.run.Statement.{statement}
 use Rattle.console.proofs.run.Tie as tie
 

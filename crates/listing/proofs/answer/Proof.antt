@@ -1,10 +1,10 @@
 -- What the line means decides which of the four is done.
 use mathlib.Core.Path.{subst}
 use native.Mathlib.Omega.{arith}
+use borrow.Author.Needs.{needs}
 use Rattle.reading.specs.Meaning.{Means, Told}
 use Rattle.listing.specs.Short.{bad-short}
 use Rattle.listing.specs.Lines.{lined-open, lined-close, lined-report, lined-bad}
-use borrow.Author.Needs.{needs}
 use Rattle.listing.proofs.answer.Statement.{statement}
 use Rattle.listing.proofs.answer.Tie as tie
 

@@ -1,8 +1,8 @@
 -- The core answers for the default wheel, and its answer is printed.
 use native.Mathlib.Omega.{arith}
+use borrow.Author.Needs.{needs}
 use Rattle.listing.specs.Short.{close-short}
 use Rattle.listing.specs.Lines.{state, CloseAnswer}
-use borrow.Author.Needs.{needs}
 use Rattle.listing.proofs.close_line.Statement.{statement}
 use Rattle.listing.proofs.close_line.Tie as tie
 

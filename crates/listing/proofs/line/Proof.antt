@@ -1,6 +1,6 @@
 -- The text, then a line feed.
-use Rattle.listing.specs.Lines.{fed}
 use borrow.Author.Needs.{needs}
+use Rattle.listing.specs.Lines.{fed}
 use Rattle.listing.proofs.line.Statement.{statement}
 use Rattle.listing.proofs.line.Tie as tie
 

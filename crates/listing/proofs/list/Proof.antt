@@ -1,9 +1,9 @@
 -- Three ways: no room, too much input, and the run.
+use borrow.Author.Needs.{needs}
 use Rattle.rules.specs.Sets.{listOf}
 use Rattle.grammar.specs.Text.{ascii}
 use Rattle.grammar.specs.Answers.{longText}
 use Rattle.listing.specs.Runs.{writes-nothing, writes-long, writes-lines}
-use borrow.Author.Needs.{needs}
 use Rattle.listing.proofs.list.Statement.{statement}
 use Rattle.listing.proofs.list.Tie as tie
 

@@ -1,8 +1,8 @@
 -- The closed record, 64 times.
 use mathlib.Core.Path.{_∙_}
+use borrow.Author.Needs.{needs}
 use lib.ListN.{length-replicate, getD-replicate}
 use Rattle.rules.specs.Flows.{none}
-use borrow.Author.Needs.{needs}
 use Rattle.listing.proofs.no_flows.Statement.{statement}
 use Rattle.listing.proofs.no_flows.Tie as tie
 

@@ -1,7 +1,7 @@
 -- The core answers for the default wheel, and its answer is printed.
-use Rattle.listing.specs.Lines.{state, OpenAnswer, opened-short}
 use native.Mathlib.Omega.{arith}
 use borrow.Author.Needs.{needs}
+use Rattle.listing.specs.Lines.{state, OpenAnswer, opened-short}
 use Rattle.listing.proofs.open_line.Statement.{statement}
 use Rattle.listing.proofs.open_line.Tie as tie
 

@@ -1,7 +1,7 @@
 -- The core answers for the default wheel, and its answer is printed.
 use native.Mathlib.Omega.{arith}
-use Rattle.listing.specs.Short.{report-short}
 use borrow.Author.Needs.{needs}
+use Rattle.listing.specs.Short.{report-short}
 use Rattle.listing.proofs.report_line.Statement.{statement}
 use Rattle.listing.proofs.report_line.Tie as tie
 

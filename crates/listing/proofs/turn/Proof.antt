@@ -1,6 +1,6 @@
 -- The line from `from` on, answered.
-use Rattle.listing.specs.Runs.{turned}
 use borrow.Author.Needs.{needs}
+use Rattle.listing.specs.Runs.{turned}
 use Rattle.listing.proofs.turn.Statement.{statement}
 use Rattle.listing.proofs.turn.Tie as tie
 

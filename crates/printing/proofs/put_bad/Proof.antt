@@ -1,10 +1,10 @@
 -- `line` and the number, then `bad`.
 use mathlib.Core.List.{_++_}
+use borrow.Author.Needs.{needs}
 use Rattle.rules.specs.Sets.{listOf}
 use Rattle.grammar.specs.Text.{ascii, field}
 use Rattle.grammar.specs.Answers.{badText}
 use Rattle.printing.specs.Puts.{puts-then, room-first, room-second}
-use borrow.Author.Needs.{needs}
 use Rattle.printing.proofs.put_bad.Statement.{statement}
 use Rattle.printing.proofs.put_bad.Tie as tie
 

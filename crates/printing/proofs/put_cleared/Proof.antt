@@ -1,10 +1,10 @@
 -- By the case of the answer.
 use mathlib.Core.Path.{sym, ap}
+use borrow.Author.Needs.{needs}
 use Rattle.rules.specs.Sets.{listOf}
 use Rattle.grammar.specs.Text.{ascii}
 use Rattle.printing.specs.Tails.{closeTail}
 use Rattle.printing.specs.Puts.{puts-same, room-same}
-use borrow.Author.Needs.{needs}
 use Rattle.printing.proofs.put_cleared.Statement.{statement}
 use Rattle.printing.proofs.put_cleared.Tie as tie
 

@@ -1,11 +1,11 @@
 -- The verb and the flow, then the rest of the answer.
 use mathlib.Core.Path.{sym}
 use mathlib.Core.List.{_++_}
+use borrow.Author.Needs.{needs}
 use Rattle.rules.specs.Sets.{listOf}
 use Rattle.grammar.specs.Text.{ascii, field}
 use Rattle.printing.specs.Tails.{closeTail, close-split}
 use Rattle.printing.specs.Puts.{puts-then, puts-same, room-first, room-second, room-same}
-use borrow.Author.Needs.{needs}
 use Rattle.printing.proofs.put_close.Statement.{statement}
 use Rattle.printing.proofs.put_close.Tie as tie
 

@@ -1,9 +1,9 @@
 -- A space, then the number.
-use native.Mathlib.Omega.{arith}
 use mathlib.Core.List.{[], _∷_}
+use native.Mathlib.Omega.{arith}
+use borrow.Author.Needs.{needs}
 use Rattle.grammar.specs.Text.{decimal, field}
 use Rattle.printing.specs.Puts.{puts-then}
-use borrow.Author.Needs.{needs}
 use Rattle.printing.proofs.put_field.Statement.{statement}
 use Rattle.printing.proofs.put_field.Tie as tie
 

@@ -2,12 +2,12 @@
 use mathlib.Core.Path.{ap}
 use mathlib.Core.List.{List, _++_}
 use Prim.Native.Nat.{ℕ, _+_, _≤_}
+use borrow.Author.Needs.{needs}
 use lib.ListN.{length}
 use Rattle.rules.specs.Sets.{listOf}
 use Rattle.grammar.specs.Text.{ascii}
 use Rattle.printing.specs.Puts.{Puts, puts-then, puts-same, room-first, room-second}
 use Rattle.printing.specs.Tails.{slotsText, wordsText, grantTail}
-use borrow.Author.Needs.{needs}
 use Rattle.printing.proofs.put_grant.Statement.{statement}
 use Rattle.printing.proofs.put_grant.Tie as tie
 

@@ -1,7 +1,7 @@
 -- The word, then the field.
-use Rattle.printing.specs.Puts.{puts-then, room-first, room-second}
-use Rattle.grammar.specs.Text.{field}
 use borrow.Author.Needs.{needs}
+use Rattle.grammar.specs.Text.{field}
+use Rattle.printing.specs.Puts.{puts-then, room-first, room-second}
 use Rattle.printing.proofs.put_labelled.Statement.{statement}
 use Rattle.printing.proofs.put_labelled.Tie as tie
 

@@ -1,11 +1,11 @@
 -- The digits of `io::decimal` are those of the number.
 use mathlib.Core.Path.{_≡_, ap, _∙_}
 use native.Mathlib.Omega.{arith}
+use borrow.Author.Needs.{needs}
 use lib.ListN.{length, take}
 use Rattle.grammar.specs.Text.{decimal}
 use Rattle.printing.specs.Puts.{puts-same}
 use Rattle.printing.specs.Digits.{decimal-is}
-use borrow.Author.Needs.{needs}
 use Rattle.printing.proofs.put_number.Statement.{statement}
 use Rattle.printing.proofs.put_number.Tie as tie
 

@@ -1,8 +1,8 @@
 -- By the case of the answer.
 use mathlib.Core.Path.{sym, ap}
+use borrow.Author.Needs.{needs}
 use Rattle.printing.specs.Tails.{openTail}
 use Rattle.printing.specs.Puts.{puts-same, room-same}
-use borrow.Author.Needs.{needs}
 use Rattle.printing.proofs.put_opened.Statement.{statement}
 use Rattle.printing.proofs.put_opened.Tie as tie
 

@@ -1,11 +1,11 @@
 -- `refused` and the number.
 use mathlib.Core.Path.{sym, ap}
 use mathlib.Core.List.{_++_}
+use borrow.Author.Needs.{needs}
 use Rattle.rules.specs.Sets.{listOf}
 use Rattle.grammar.specs.Text.{ascii, field}
 use Rattle.printing.specs.Tails.{refusalTail}
 use Rattle.printing.specs.Puts.{puts-same, room-same}
-use borrow.Author.Needs.{needs}
 use Rattle.printing.proofs.put_refusal.Statement.{statement}
 use Rattle.printing.proofs.put_refusal.Tie as tie
 

@@ -1,12 +1,12 @@
 -- By the case of the answer.
 use mathlib.Core.Path.{sym, ap, _∙_}
 use mathlib.Core.List.{_++_}
+use borrow.Author.Needs.{needs}
 use Rattle.rules.specs.Sets.{listOf}
 use Rattle.grammar.specs.Text.{ascii, field}
 use Rattle.grammar.specs.Answers.{reportText}
 use Rattle.printing.specs.Tails.{report-split}
 use Rattle.printing.specs.Puts.{puts-same, room-same}
-use borrow.Author.Needs.{needs}
 use Rattle.printing.proofs.put_report.Statement.{statement}
 use Rattle.printing.proofs.put_report.Tie as tie
 

@@ -1,11 +1,11 @@
 -- The slots below s are printed.
-use mathlib.Core.Path.{_≡_, ap, subst}
-use Prim.Native.Nat.{_-_, _≤_}
+use mathlib.Core.Path.{_≡_, ap}
+use mathlib.Core.Logic.{⊎-elim}
+use Prim.Native.Nat.{_-_, _≤_, _<_}
 use native.Mathlib.Omega.{arith}
 use borrow.Author.Tests.{eq-eqb, ne-eqb}
-use mathlib.Core.Logic.{⊎-elim}
 use Rattle.rules.specs.Sets.{has, places}
-use Rattle.grammar.specs.Text.{field, fields}
+use Rattle.grammar.specs.Text.{fields}
 use Rattle.printing.specs.Puts.{Puts, puts-nothing, puts-same}
 use Rattle.printing.specs.Slots.{slot-room, slot-yes, slot-no, slots-length}
 use Rattle.printing.proofs.put_slots.Statement.{statement}
@@ -30,11 +30,12 @@ put-field-requires c κs =
     let at = c .before .before .before .loop in
     let st = c .before .before .before .before .before in
     let f = has (st .args .slots) in
+    let below : at .s < 64 = omega (arith, c .before .before .loop-test .taken) in
     omega (
       arith,
       at .inv .1 .place,
       slots-length f (at .s) (at .inv .0) (st .pre) (at .inv .1),
-      slot-room f (at .s) (eq-eqb _ _ (c .before .if1 .taken)) (c .before .before .loop-test .taken),
+      slot-room f (at .s) (eq-eqb _ _ (c .before .if1 .taken)) below,
       st .pre,
     )
 
@@ -50,7 +51,7 @@ loop-again c =
     let at = c .before .before .loop in
     let st = c .before .before .before .before in
     let f = has (st .args .slots) in
-    let below = c .before .loop-test .taken in (
+    let below : at .s < 64 = omega (arith, c .before .loop-test .taken) in (
       omega arith,
       ⊎-elim
           (λ w. rw (w .5, w .6) (slot-yes f (at .s) (at .inv .1) (eq-eqb _ _ (w .0 .taken)) below (st .pre) (w .2 .ensures)))

@@ -1,10 +1,10 @@
 -- The free cells, then those held.
 use mathlib.Core.List.{_++_}
+use borrow.Author.Needs.{needs}
 use Rattle.rules.specs.Sets.{listOf}
 use Rattle.grammar.specs.Text.{ascii, field}
 use Rattle.printing.specs.Tails.{totalsText}
 use Rattle.printing.specs.Puts.{puts-then, room-first, room-second}
-use borrow.Author.Needs.{needs}
 use Rattle.printing.proofs.put_totals.Statement.{statement}
 use Rattle.printing.proofs.put_totals.Tie as tie
 

@@ -1,11 +1,11 @@
 -- The bytes before i are the word's.
-use Rattle.reading.specs.Verbs.{begins-all, begins-long, begins-same}
 use mathlib.Core.Path.{_≡_}
 use Prim.Native.Nat.{ℕ, _-_, _≤_, _<_}
 use native.Mathlib.Omega.{arith}
 use borrow.Author.Count.{below-more}
 use lib.ListN.{length, getD}
 use Rattle.laws.specs.Logic.{tells-yes, tells-no}
+use Rattle.reading.specs.Verbs.{begins-all, begins-long, begins-same}
 use Rattle.reading.proofs.begins.Statement.{statement}
 use Rattle.reading.proofs.begins.Tie as tie
 

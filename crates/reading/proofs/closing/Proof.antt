@@ -1,9 +1,9 @@
 -- One field: the flow. Anything else: bad.
 use borrow.Author.Tests.{not-true, not-false}
+use borrow.Author.Needs.{needs}
 use Rattle.reading.specs.Meaning.{Means, Told}
 use Rattle.reading.specs.Columns.{was-split, was-not-split}
 use Rattle.reading.specs.Orders.{means-bad, means-close, closes-not, closes-nothing}
-use borrow.Author.Needs.{needs}
 use Rattle.reading.proofs.closing.Statement.{statement}
 use Rattle.reading.proofs.closing.Tie as tie
 

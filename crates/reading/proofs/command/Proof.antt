@@ -1,7 +1,7 @@
 -- The first word decides.
+use borrow.Author.Needs.{needs}
 use Rattle.reading.specs.Verbs.{no-verb}
 use Rattle.reading.specs.Orders.{means-bad}
-use borrow.Author.Needs.{needs}
 use Rattle.reading.proofs.command.Statement.{statement}
 use Rattle.reading.proofs.command.Tie as tie
 

@@ -1,5 +1,4 @@
 -- A byte below the digits, above them, or one of them.
-use native.Mathlib.Omega.{arith}
 use borrow.Author.Needs.{needs}
 use borrow.Author.Tests.{lt-ltb, le-ltb}
 use Rattle.grammar.specs.Decimals.{digit}

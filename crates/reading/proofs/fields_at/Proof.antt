@@ -1,10 +1,11 @@
 -- The loop reads one field a turn.
-use Rattle.reading.specs.Meaning.{NumberAt}
-use Rattle.reading.specs.Digits.{was-found, was-missing}
+use mathlib.Core.Path.{_≡_}
 use Prim.Native.Nat.{_+_, _-_}
 use native.Mathlib.Omega.{arith}
 use borrow.Author.Tests.{not-true, not-false}
 use lib.ListN.{length}
+use Rattle.reading.specs.Meaning.{NumberAt}
+use Rattle.reading.specs.Digits.{was-found, was-missing}
 use Rattle.reading.specs.Columns.{Going, going-start, going-on, going-end, too-many, no-space, not-numbered, no-split}
 use Rattle.reading.proofs.fields_at.Statement.{statement}
 use Rattle.reading.proofs.fields_at.Tie as tie
@@ -27,7 +28,8 @@ no-fields-requires c κs = tt
 returns : tie.Need-returns Inv-loop μ-loop
 returns c =
     let at = c .before .before .before .loop in
-    no-split _ _ _ (c .no-fields .ensures) (too-many _ _ _ _ _ (at .inv) (c .before .before .loop-test .taken) (c .before .if1 .taken))
+    let all : at .count ≡ 19 = omega (arith, c .before .if1 .taken, at .inv .most) in
+    no-split _ _ _ (c .no-fields .ensures) (too-many _ _ _ _ _ (at .inv) (c .before .before .loop-test .taken) all)
 
 shared-slice-read-if2 : tie.Need-shared-slice-read-if2 Inv-loop μ-loop
 shared-slice-read-if2 c = omega arith

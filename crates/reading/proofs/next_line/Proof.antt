@@ -1,9 +1,9 @@
 -- With a line feed the next line starts behind it; without one the text is at its end.
 use mathlib.Core.Path.{_≡_}
 use native.Mathlib.Omega.{arith}
+use borrow.Author.Needs.{needs}
 use lib.ListN.{length}
 use Rattle.grammar.specs.Lines.{line-then, line-last}
-use borrow.Author.Needs.{needs}
 use Rattle.reading.proofs.next_line.Statement.{statement}
 use Rattle.reading.proofs.next_line.Tie as tie
 

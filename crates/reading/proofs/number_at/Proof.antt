@@ -1,6 +1,6 @@
 -- The loop goes on along the digits: those up to `next` are the digits of `value`, and d is the digit that follows.
 use mathlib.Core.Path.{_≡_}
-use Prim.Native.Nat.{_-_}
+use Prim.Native.Nat.{_+_, _-_, _*_, _≤_, _<_}
 use native.Mathlib.Omega.{arith}
 use lib.ListN.{length, drop}
 use Rattle.grammar.specs.Decimals.{leading}
@@ -45,7 +45,8 @@ no-number-requires-2 c κs = tt
 returns-2 : tie.Need-returns-2 Inv-loop μ-loop
 returns-2 c =
     let at = c .before .before .before .loop in
-    missing _ _ _ (c .no-number2 .ensures) (zero-first _ _ _ _ (at .d) (at .inv .0) (at .inv .1) (c .before .before .loop-test .taken) (c .before .if2 .taken))
+    let zero : at .value ≡ 0 = omega (arith, c .before .if2 .taken, at .inv .0 .small) in
+    missing _ _ _ (c .no-number2 .ensures) (zero-first _ _ _ _ (at .d) (at .inv .0) (at .inv .1) (c .before .before .loop-test .taken) zero)
 
 mul-value : tie.Need-mul-value Inv-loop μ-loop
 mul-value c = omega arith
@@ -59,8 +60,8 @@ no-number-requires-3 c κs = tt
 returns-3 : tie.Need-returns-3 Inv-loop μ-loop
 returns-3 c =
     let at = c .before .before .before .before .loop in
-    missing _ _ _ (c .no-number3 .ensures)
-    (too-large _ _ _ _ (at .d) (at .inv .0) (at .inv .1) (c .before .before .before .loop-test .taken) (c .before .if3 .taken))
+    let large : 65535 < at .value * 10 + at .d = omega (arith, c .before .if3 .taken) in
+    missing _ _ _ (c .no-number3 .ensures) (too-large _ _ _ _ (at .d) (at .inv .0) (at .inv .1) (c .before .before .before .loop-test .taken) large)
 
 add-next-2 : tie.Need-add-next-2 Inv-loop μ-loop
 add-next-2 c = omega arith
@@ -76,8 +77,10 @@ loop-less c =
 
 loop-again : tie.Need-loop-again Inv-loop μ-loop
 loop-again c =
-    let at = c .before .before .before .before .loop in (
-      next-digit _ _ _ _ (at .d) (at .inv .0) (at .inv .1) (c .before .before .before .loop-test .taken) (c .before .before .if2 .left) (c .before .if3 .left),
+    let at = c .before .before .before .before .loop in
+    let some : 0 < at .value = omega (arith, c .before .before .if2 .left) in
+    let small : at .value * 10 + at .d ≤ 65535 = omega (arith, c .before .if3 .left) in (
+      next-digit _ _ _ _ (at .d) (at .inv .0) (at .inv .1) (c .before .before .before .loop-test .taken) some small,
       c .digit-at3 .ensures,
     )
 

@@ -1,10 +1,10 @@
 -- Too few fields, or something else than fields: bad. Otherwise the fields are the flow, W, D and the channels.
 use native.Mathlib.Omega.{arith}
 use borrow.Author.Tests.{not-true, not-false}
+use borrow.Author.Needs.{needs}
 use Rattle.reading.specs.Meaning.{Means, Told}
 use Rattle.reading.specs.Columns.{was-split, was-not-split}
 use Rattle.reading.specs.Orders.{means-bad, means-open, opens-not, opens-nothing}
-use borrow.Author.Needs.{needs}
 use Rattle.reading.proofs.opening.Statement.{statement}
 use Rattle.reading.proofs.opening.Tie as tie
 

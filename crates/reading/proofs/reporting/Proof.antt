@@ -1,8 +1,8 @@
 -- The verb alone is six bytes long.
+use borrow.Author.Needs.{needs}
 use Rattle.reading.specs.Meaning.{Means, Told}
 use Rattle.reading.specs.Verbs.{not-report, reporting-reads}
 use Rattle.reading.specs.Orders.{means-bad}
-use borrow.Author.Needs.{needs}
 use Rattle.reading.proofs.reporting.Statement.{statement}
 use Rattle.reading.proofs.reporting.Tie as tie
 

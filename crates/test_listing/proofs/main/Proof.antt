@@ -1,6 +1,6 @@
 -- The loop runs through the arguments.
-use borrow.Author.Needs.{needs}
 use Prim.Native.Nat.{_-_, _≤_}
+use borrow.Author.Needs.{needs}
 use Rattle.test_listing.proofs.main.Statement.{statement}
 use Rattle.test_listing.proofs.main.Tie as tie
 
