@@ -5,35 +5,63 @@ use mathlib.Core.Bool.{Bool, true, false}
 use mathlib.Core.List.{List, [], _∷_}
 use mathlib.Core.Logic.{_⊎_}
 use Prim.Native.Nat.{ℕ, _-_, _*_, _≤_, _<_}
-use Rattle.rules.specs.declared.Wheel.{Wheel}
 use Rattle.rules.specs.declared.Demand.{Demand}
 use Rattle.rules.specs.declared.State.{State}
 use Rattle.rules.specs.declared.Record.{Record}
+use Rattle.rules.specs.declared.Selected.{Selected}
+use Rattle.rules.specs.declared.Selected.the-variants as selected
 use Rattle.rules.specs.declared.Opened.{Opened}
 use Rattle.rules.specs.declared.Opened.the-variants as opened
 use Rattle.rules.specs.declared.Cleared.{Cleared}
 use Rattle.rules.specs.declared.Cleared.the-variants as cleared
 use Rattle.rules.specs.declared.Reported.{Reported}
 use Rattle.rules.specs.declared.Reported.the-variants as reported
-use Rattle.rules.specs.Wheels.{Legal, size}
+use Rattle.rules.specs.Wheels.{Legal}
 use Rattle.rules.specs.Paths.{Chip, travel, allowed, freeSlots, Inside, Once, Stamped}
 use Rattle.rules.specs.Flows.{claiming, cellsOf}
-use Rattle.rules.specs.Numbers.{number, Line, line, Refuses, Passes}
+use Rattle.rules.specs.Numbers.{number, Line, line, Refuses}
 use Rattle.rules.specs.Orders.{Tabled, Listed, NoneDelivers, NoneMeets}
 use Rattle.rules.specs.Promises.{Grants, openRecord, closedRecord}
+use Rattle.ledger.specs.Calls.{Seen}
 use Rattle.agree.specs.Checks.{Ready}
 use Rattle.core.specs.declared.Gate.{Gate}
 use Rattle.core.specs.declared.Gate.the-variants as gate
 use Rattle.core.specs.declared.Opening.{Opening}
 use Rattle.core.specs.declared.Closing.{Closing}
 
--- lines 8 and 10 of a closing, behind the gate
-abbrev pub flowLines : ℕ → State → ℕ → List Line
-flowLines n s f = line 8 ((f ≡ 0) ⊎ (n < f)) ∷ line 10 (claiming s ≡ false) ∷ []
+-- the answer of bare selection as that of an opening
+abbrev pub openedBy : Selected → Opened
+openedBy (selected.Chosen g) = opened.Granted g
+openedBy (selected.Refused r) = opened.Refused r
 
-unfoldable pub DecidesFlow : Wheel → ℕ → Record → ℕ → Cleared → Type 0
-DecidesFlow w n r f (cleared.Cells k) = Passes (flowLines n (r .state) f) × (k ≡ size (w .n) (r .slots) * r .len)
-DecidesFlow w n r f (cleared.Refused q) = Refuses (flowLines n (r .state) f) (number q)
+-- ---- behind the gate, where 1 to 4 are passed
+
+-- 5 to 14 of an opening, where `isOpen` is 9's condition
+abbrev pub pathLines : Chip → List ℕ → ℕ → Type 0 → List ℕ → ℕ → ℕ → Demand → List Line
+pathLines chip t n isOpen path m f d =
+    line 5 ((m ≡ 0) ⊎ (16 < m))
+    ∷ line 6 (¬ Inside chip path m)
+    ∷ line 7 (¬ Once path m)
+    ∷ line 8 ((f ≡ 0) ⊎ (n < f))
+    ∷ line 9 isOpen
+    ∷ line 11 (d .words .0 ≡ 0)
+    ∷ line 12 (d .deadline ≤ travel chip path m)
+    ∷ line 13 (NoneDelivers (chip .wheel) (freeSlots chip t path m) (d .words .0))
+    ∷ line 14 (NoneMeets (chip .wheel) (freeSlots chip t path m) (d .words .0) (allowed chip path m (d .deadline)))
+    ∷ []
+
+-- 8 and 10 of a closing, where `isClosed` is 10's condition
+abbrev pub flowLines : ℕ → Type 0 → ℕ → List Line
+flowLines n isClosed f = line 8 ((f ≡ 0) ⊎ (n < f)) ∷ line 10 isClosed ∷ []
+
+unfoldable pub DecidesPath : Chip → List ℕ → ℕ → State → List ℕ → ℕ → ℕ → Demand → Opened → Type 0
+DecidesPath chip t n s path m f d (opened.Granted g) =
+    Seen chip n s path m f d × Grants (chip .wheel) (freeSlots chip t path m) (d .words .0) (allowed chip path m (d .deadline)) g
+DecidesPath chip t n s path m f d (opened.Refused r) = Refuses (pathLines chip t n (claiming s ≡ true) path m f d) (number r)
+
+unfoldable pub DecidesFlow : Chip → ℕ → Record → ℕ → Cleared → Type 0
+DecidesFlow chip n r f (cleared.Cells k) = (1 ≤ f) × (f ≤ n) × (claiming (r .state) ≡ true) × (k ≡ cellsOf chip r)
+DecidesFlow chip n r f (cleared.Refused q) = Refuses (flowLines n (claiming (r .state) ≡ false) f) (number q)
 
 module _ (chip : Chip) (t : List ℕ) (n : ℕ) (agreed : Bool) where
   abbrev pub checkedLines : List Line → List Line
@@ -45,21 +73,10 @@ module _ (chip : Chip) (t : List ℕ) (n : ℕ) (agreed : Bool) where
   Gates gate.Through = Ready chip t n × (agreed ≡ true)
 
   abbrev pub openLines : State → List ℕ → ℕ → ℕ → Demand → List Line
-  openLines s path m f d =
-      checkedLines
-      (line 5 ((m ≡ 0) ⊎ (16 < m))
-      ∷ line 6 (¬ Inside chip path m)
-      ∷ line 7 (¬ Once path m)
-      ∷ line 8 ((f ≡ 0) ⊎ (n < f))
-      ∷ line 9 (claiming s ≡ true)
-      ∷ line 11 (d .words .0 ≡ 0)
-      ∷ line 12 (d .deadline ≤ travel chip path m)
-      ∷ line 13 (NoneDelivers (chip .wheel) (freeSlots chip t path m) (d .words .0))
-      ∷ line 14 (NoneMeets (chip .wheel) (freeSlots chip t path m) (d .words .0) (allowed chip path m (d .deadline)))
-      ∷ [])
+  openLines s path m f d = checkedLines (pathLines chip t n (claiming s ≡ true) path m f d)
 
   abbrev pub closeLines : State → ℕ → List Line
-  closeLines s f = checkedLines (flowLines n s f)
+  closeLines s f = checkedLines (flowLines n (claiming s ≡ false) f)
 
   abbrev pub reportLines : List Line
   reportLines = checkedLines []
@@ -68,15 +85,13 @@ module _ (chip : Chip) (t : List ℕ) (n : ℕ) (agreed : Bool) where
 
   -- the decision, before anything is written
   unfoldable pub DecidesOpen : State → List ℕ → ℕ → ℕ → Demand → Opened → Type 0
-  DecidesOpen s path m f d (opened.Granted g) =
-      Passes (openLines s path m f d)
-      × Grants (chip .wheel) (freeSlots chip t path m) (d .words .0) (allowed chip path m (d .deadline)) g
+  DecidesOpen s path m f d (opened.Granted g) = Ready chip t n × (agreed ≡ true) × DecidesPath chip t n s path m f d (opened.Granted g)
   DecidesOpen s path m f d (opened.Refused r) = Refuses (openLines s path m f d) (number r)
 
   -- what is written after it
   unfoldable pub WritesOpen : List ℕ → ℕ → ℕ → Demand → List ℕ → Opened → Opening → Type 0
   WritesOpen path m f d t′ (opened.Granted g) o =
-      (o .go ≡ true) × (o .at ≡ f - 1) × (o .record ≡ openRecord path m (g .slots) d) × Stamped chip path m (g .slots) f t t′
+      (o .go ≡ true) × (o .at ≡ f - 1) × (o .new ≡ openRecord path m (g .slots) d) × Stamped chip path m (g .slots) f t t′
   WritesOpen path m f d t′ (opened.Refused r) o = (o .go ≡ false) × (t′ ≡ t)
 
   pub record OpensOne (s : State) (path : List ℕ) (m f : ℕ) (d : Demand) (t′ : List ℕ) (o : Opening) : Type 0 where
@@ -86,12 +101,12 @@ module _ (chip : Chip) (t : List ℕ) (n : ℕ) (agreed : Bool) where
   -- ---- closing
 
   unfoldable pub DecidesClose : Record → ℕ → Cleared → Type 0
-  DecidesClose r f (cleared.Cells k) = Passes (closeLines (r .state) f) × (k ≡ cellsOf chip r)
+  DecidesClose r f (cleared.Cells k) = Ready chip t n × (agreed ≡ true) × DecidesFlow chip n r f (cleared.Cells k)
   DecidesClose r f (cleared.Refused q) = Refuses (closeLines (r .state) f) (number q)
 
   unfoldable pub WritesClose : Record → ℕ → List ℕ → Cleared → Closing → Type 0
   WritesClose r f t′ (cleared.Cells k) o =
-      (o .go ≡ true) × (o .at ≡ f - 1) × (o .record ≡ closedRecord) × Stamped chip (r .path) (r .len) (r .slots) 0 t t′
+      (o .go ≡ true) × (o .at ≡ f - 1) × (o .new ≡ closedRecord) × Stamped chip (r .path) (r .len) (r .slots) 0 t t′
   WritesClose r f t′ (cleared.Refused q) o = (o .go ≡ false) × (t′ ≡ t)
 
   pub record ClosesOne (r : Record) (f : ℕ) (t′ : List ℕ) (o : Closing) : Type 0 where
@@ -101,5 +116,5 @@ module _ (chip : Chip) (t : List ℕ) (n : ℕ) (agreed : Bool) where
   -- ---- the report, from the number of cells that the records claim
 
   unfoldable pub ReportsOne : ℕ → Reported → Type 0
-  ReportsOne held (reported.Counted c) = Passes reportLines × (c .held ≡ held) × (c .free ≡ chip .channels * chip .wheel .n - held)
+  ReportsOne held (reported.Counted c) = Ready chip t n × (agreed ≡ true) × (c .held ≡ held) × (c .free ≡ chip .channels * chip .wheel .n - held)
   ReportsOne held (reported.Refused q) = Refuses reportLines (number q)

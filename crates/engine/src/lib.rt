@@ -5,7 +5,7 @@ ghost use mathlib.Core.Path.{_≡_};
 ghost use mathlib.Core.Bool.{true, false};
 ghost use mathlib.Core.Logic.{_⊎_};
 ghost use Prim.Native.Nat.{ℕ, _+_, _-_, _*_, _<_, _≤_};
-ghost use lib.ListN.{length, getD};
+ghost use lib.ListN.{getD};
 ghost use Rattle.rules.specs.Wheels.{Legal, words};
 ghost use Rattle.rules.specs.Promises.{Grants};
 ghost use Rattle.line.specs.Tables.{Sound};
@@ -116,7 +116,10 @@ fn improves(k: usize, v: u16, best: Found) -> bool
     if k < best.count {
         return true;
     }
-    best.value < v
+    if best.value < v {
+        return true;
+    }
+    false
 }
 
 // The best of the starts so far with one more start taken into account.

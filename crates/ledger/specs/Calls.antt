@@ -118,22 +118,22 @@ inside-stable chip path m h = record { at = λ i l. go i l (decLt (getD path i 0
 once-stable : (path : List ℕ) (m : ℕ) → ¬ ¬ Once path m → Once path m
 once-stable path m h = record { at = λ i k l j e. h λ once. once .at i k l j e }
 
-record Seen (chip : Chip) (n : ℕ) (list : List Record) (path : List ℕ) (m f : ℕ) (d : Demand) : Type 0 where
-  some : 1 ≤ m
-  fits : m ≤ 16
-  inside : Inside chip path m
-  once : Once path m
-  one : 1 ≤ f
-  listed : f ≤ n
-  shut : claiming (flow list (f - 1) .state) ≡ false
-  words : 1 ≤ d .words .0
-  time : travel chip path m < d .deadline
+pub record Seen (chip : Chip) (n : ℕ) (state : State) (path : List ℕ) (m f : ℕ) (d : Demand) : Type 0 where
+  pub some : 1 ≤ m
+  pub fits : m ≤ 16
+  pub inside : Inside chip path m
+  pub once : Once path m
+  pub one : 1 ≤ f
+  pub listed : f ≤ n
+  pub shut : claiming state ≡ false
+  pub words : 1 ≤ d .words .0
+  pub time : travel chip path m < d .deadline
 
 neither : {P Q : Type 0} → ¬ (P ⊎ Q) → (¬ P) × (¬ Q)
 neither h = (λ p. h (inl p), λ q. h (inr q))
 
 module _ (chip : Chip) (t : List ℕ) (n : ℕ) (list : List Record) where
-  saw : (path : List ℕ) (m f : ℕ) (d : Demand) → Passes (openOrder chip t n list path m f d) → Seen chip n list path m f d
+  saw : (path : List ℕ) (m f : ℕ) (d : Demand) → Passes (openOrder chip t n list path m f d) → Seen chip n (flow list (f - 1) .state) path m f d
   unfolding Passes
   saw path m f d p =
       let from5 = p .1 .1 .1 .1 in
@@ -177,7 +177,7 @@ put-back list i r q h e =
 
 module _ (chip : Chip) (t : List ℕ) (n : ℕ) (list : List Record) (legal : Legal (chip .wheel)) (tabled : Tabled chip t)
     (fits : n ≤ length list) (agree : Agree chip t n list) where
-  module _ (path : List ℕ) (m f : ℕ) (d : Demand) (g : Grant) (seen : Seen chip n list path m f d)
+  module _ (path : List ℕ) (m f : ℕ) (d : Demand) (g : Grant) (seen : Seen chip n (flow list (f - 1) .state) path m f d)
       (granted : Grants (chip .wheel) (freeSlots chip t path m) (d .words .0) (allowed chip path m (d .deadline)) g) where
     new-lawful : Own chip (openRecord path m (g .slots) d .state) (openRecord path m (g .slots) d)
     unfolding Own openRecord
@@ -263,7 +263,7 @@ module _ (chip : Chip) (t : List ℕ) (n : ℕ) (list : List Record) (legal : Le
       new : Record
       new = openRecord path m (g .slots) d
 
-      go : (a : Cleared) → Closes chip t′ n list′ f t″ list″ a → Seen chip n list path m f d → f - 1 < length list
+      go : (a : Cleared) → Closes chip t′ n list′ f t″ list″ a → Seen chip n (flow list (f - 1) .state) path m f d → f - 1 < length list
           → flow list′ (f - 1) ≡ openRecord path m (g .slots) d → flow list (f - 1) ≡ closedRecord
           → (a ≡ cleared.Cells (g .count * m)) × (t″ ≡ t) × (list″ ≡ list)
       go (cleared.Cells k) q seen at here was = (

@@ -1,11 +1,11 @@
 -- A bound that needs no table. Every header brings at most P slots, the first one no more than the free run at the start,
 -- and every header but the first is needed for a gap of at most L; so k slots pay at least a certain number of headers and
 -- cannot deliver more than what these leave. Starts that cannot win are passed over by this bound.
-use mathlib.Core.Path.{_≡_, refl, sym, ap, _∙_}
+use mathlib.Core.Path.{_≡_, refl, ap, _∙_}
 use mathlib.Core.Bool.{Bool, true, false, cond}
 use mathlib.Core.List.{List, [], _∷_}
 use mathlib.Core.Logic.{_⊎_, inl, inr}
-use Prim.Native.Nat.{ℕ, zero, suc, pred, _+_, _-_, _*_, _/_, _≤_, _<_, min}
+use Prim.Native.Nat.{ℕ, zero, suc, _+_, _-_, _*_, _/_, _≤_, _<_, min}
 use native.Mathlib.Omega.{arith}
 use native.Mathlib.Nat.{mod-lt, mul-le-mul-right, div-lt-iff-lt-mul}
 use lib.ListN.{length}

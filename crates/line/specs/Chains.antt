@@ -23,7 +23,7 @@ module _ {m e : ℕ → ℕ} {t J : ℕ} (c : Chain m e t J) where
       let q : j + 1 + i ≡ j + suc i = omega arith in
       omega (arith, ap m q, down i (j + 1) (omega arith) (omega arith), c .step j a (omega arith))
 
-  pub falls : (i j : ℕ) → 1 ≤ i → i ≤ j → j ≤ t → m j ≤ m i
+  falls : (i j : ℕ) → 1 ≤ i → i ≤ j → j ≤ t → m j ≤ m i
   falls i j a b d =
       let q : i + (j - i) ≡ j = omega arith in
       rw q at (down (j - i) i a (omega arith))

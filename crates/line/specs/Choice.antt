@@ -71,7 +71,7 @@ module _ (t : Task) (s : ℕ) where
   begun p k = true ∷ greedy t (ahead t s (p + 1)) 1 (phase t 0) (pred k)
 
   -- what is chosen after q slots of it
-  unfoldable pub went : ℕ → ℕ → ℕ → List Bool
+  unfoldable went : ℕ → ℕ → ℕ → List Bool
   went p k q = greedy t (ahead t s (p + q)) 1 (q % P t) (k - q)
 
   greedy-on : (d g r k : ℕ) → d < N t → prefers (taking t (opens t s d) (ahead t s (d + 1)) r k) (skipping t (ahead t s (d + 1)) g k) ≡ true

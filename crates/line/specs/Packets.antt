@@ -47,13 +47,13 @@ gain-later S H (suc r) e = refl
 
 -- ---- on raised, took and max
 
-pub raised-mono : (a x y : ℕ) → x ≤ y → raised a x ≤ raised a y
+raised-mono : (a x y : ℕ) → x ≤ y → raised a x ≤ raised a y
 unfolding raised
 raised-mono a zero y h = omega arith
 raised-mono a (suc x) zero h = absurd (omega arith)
 raised-mono a (suc x) (suc y) h = omega arith
 
-pub raised-max : (a x y : ℕ) → raised a (max x y) ≡ max (raised a x) (raised a y)
+raised-max : (a x y : ℕ) → raised a (max x y) ≡ max (raised a x) (raised a y)
 raised-max a x y = go (le-or-lt x y)
   where
     go : (x ≤ y) ⊎ (y < x) → raised a (max x y) ≡ max (raised a x) (raised a y)
@@ -64,11 +64,6 @@ pub raised-twice : (a b v : ℕ) → raised a (raised b v) ≡ raised (a + b) v
 unfolding raised
 raised-twice a b zero = refl
 raised-twice a b (suc v) = omega arith
-
-pub raised-none : (a v : ℕ) → v ≡ 0 → raised a v ≡ 0
-unfolding raised
-raised-none a zero e = refl
-raised-none a (suc v) e = absurd (omega arith)
 
 pub took-some : (f : Bool) (k a v : ℕ) → f ≡ true → 1 ≤ k → took f k a v ≡ raised a v
 unfolding took
@@ -87,12 +82,12 @@ took-zero false k a v e = refl
 took-zero true zero a v e = refl
 took-zero true (suc k) a v e = absurd (omega arith)
 
-pub orNone-zero : (b : Bool) (v : ℕ) → v ≡ 0 → orNone b v ≡ 0
+orNone-zero : (b : Bool) (v : ℕ) → v ≡ 0 → orNone b v ≡ 0
 unfolding orNone
 orNone-zero true v e = e
 orNone-zero false v e = refl
 
-pub orNone-false : (b : Bool) (v : ℕ) → b ≡ false → orNone b v ≡ 0
+orNone-false : (b : Bool) (v : ℕ) → b ≡ false → orNone b v ≡ 0
 unfolding orNone
 orNone-false false v e = refl
 orNone-false true v e = absurd (not-both refl e)
@@ -129,14 +124,14 @@ module _ (t : Task) (s : ℕ) where
       let e : N t - d ≡ suc (N t - suc d) = omega arith in
       rw (e, add-one d)
 
-  pub ahead-end : (d : ℕ) → N t ≤ d → ahead d ≡ []
+  ahead-end : (d : ℕ) → N t ≤ d → ahead d ≡ []
   unfolding flags
   ahead-end d h =
       let e : N t - d ≡ 0 = omega arith in
       rw e
 
   -- any state, by its first slot
-  pub worth-at : (d g r k : ℕ) → d < N t → worth t (ahead d) g r k ≡ max (taking t (opens t s d) (ahead (d + 1)) r k) (skipping t (ahead (d + 1)) g k)
+  worth-at : (d g r k : ℕ) → d < N t → worth t (ahead d) g r k ≡ max (taking t (opens t s d) (ahead (d + 1)) r k) (skipping t (ahead (d + 1)) g k)
   worth-at d g r k h = rw (ahead-cons d h) (worth-cons t (opens t s d) (ahead (d + 1)) g r k)
 
   -- ---- the tail: a maximum of heads

@@ -10,8 +10,8 @@ use native.Mathlib.Nat.{add-zero}
 use lib.ListN.{getD}
 use Rattle.laws.specs.Logic.{le-or-lt}
 use Rattle.line.specs.declared.Task.{Task}
-use Rattle.line.specs.Values.{N, S, H, P, raised, greedy}
-use Rattle.line.specs.Packets.{ahead, opens, opens-last, packetWords, head, tail, mid, mid-first, head-shut, raised-none, head-most, tail-most}
+use Rattle.line.specs.Values.{N, S, P, raised, greedy}
+use Rattle.line.specs.Packets.{ahead, opens, opens-last, packetWords, head, tail, mid, mid-first, head-shut, head-most, tail-most}
 use Rattle.line.specs.Tables.{Sound, entry, FreeRun}
 use Rattle.line.specs.Rows.{Solved, small}
 use Rattle.line.specs.Chains.{Chain, Peak, some-part}

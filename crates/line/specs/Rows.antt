@@ -12,7 +12,7 @@ use lib.ListN.{getD, length, set, length-set}
 use lib.Seq.{getD-set-same, getD-set-other}
 use borrow.Author.Tests.{le-leb, lt-leb}
 use Rattle.line.specs.declared.Task.{Task}
-use Rattle.line.specs.Values.{N, S, H, P, L, orNone, raised}
+use Rattle.line.specs.Values.{N, S, P, L, orNone, raised}
 use Rattle.line.specs.Packets.{packetWords, opens, opens-last, head, tail, head-most, tail-most, tail-done, tail-far, head-shut, head-zero}
 use Rattle.line.specs.Tables.{Sound, entry, FreeRun, Heads, Tails, mostOf, packMost, tail-window, head-long, head-short}
 

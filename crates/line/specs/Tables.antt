@@ -13,7 +13,7 @@ use Rattle.rules.specs.Sets.{Below}
 use Rattle.rules.specs.Wheels.{Legal}
 use Rattle.laws.specs.Logic.{le-or-lt}
 use Rattle.line.specs.declared.Task.{Task}
-use Rattle.line.specs.Values.{N, S, H, P, L, raised}
+use Rattle.line.specs.Values.{N, P, L, raised}
 use Rattle.line.specs.Packets.{packetWords, opens, head, tail, reach, reach-first, reach-step, reach-cut, reach-end, mid, mid-first, mid-step, mid-stop, mid-full}
 
 -- what is asked of a search: a legal wheel that can be cut open, words and gaps that are not 0, free slots of the wheel

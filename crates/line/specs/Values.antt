@@ -4,7 +4,7 @@
 use mathlib.Core.Path.{_≡_, refl, sym, ap, _∙_}
 use mathlib.Core.Bool.{Bool, true, false}
 use mathlib.Core.List.{List, [], _∷_}
-use Prim.Native.Nat.{ℕ, zero, suc, pred, _+_, _-_, _*_, _≤_, _<_, max}
+use Prim.Native.Nat.{ℕ, zero, suc, pred, _+_, _*_, _≤_, _<_, max}
 use native.Mathlib.Omega.{arith}
 use lib.Dec.{leb, ltb}
 use lib.ListN.{length}
@@ -90,7 +90,7 @@ unfoldable pub prefers : ℕ → ℕ → Bool
 prefers zero b = false
 prefers (suc a) b = leb b (suc a)
 
-pub prefers-yes : (a b : ℕ) → prefers a b ≡ true → (0 < a) × (b ≤ a)
+prefers-yes : (a b : ℕ) → prefers a b ≡ true → (0 < a) × (b ≤ a)
 unfolding prefers
 prefers-yes zero b e = absurd (not-both e refl)
 prefers-yes (suc a) b e = (omega arith, leb-true b (suc a) e)

@@ -59,7 +59,7 @@ fn open_line(p: Parsed, table: &mut [u8], list: [Record; 64], out: &mut [u8], at
         words: Words(p.words),
         deadline: p.deadline,
     };
-    let r = stand::open(table, wheel(), list, 16, flow, path, p.len, demand);
+    let r = core::open(table, wheel(), list, 16, flow, path, p.len, demand);
     let answer = r.answer;
     let after = r.list;
     let place = printing::put_open(out, at, flow, answer);
@@ -81,7 +81,7 @@ fn close_line(
     ensures { λ r. ⌜ CloseLine p (state (now (table .entry)) list) (state (now (table .exit)) (r .list)) (now (out .entry)) at (now (out .exit)) (r .place) ⌝ }
 {
     let flow = wide(p.flow);
-    let r = stand::close(table, wheel(), list, 16, flow);
+    let r = core::close(table, wheel(), list, 16, flow);
     let answer = r.answer;
     let after = r.list;
     let place = printing::put_close(out, at, flow, answer);
@@ -96,7 +96,7 @@ fn report_line(table: &[u8], list: [Record; 64], out: &mut [u8], at: usize) -> u
     requires { ⌜ at + 83 ≤ length (now out) ⌝ }
     ensures { λ r. ⌜ ReportLine (state (now (table .entry)) list) (now (out .entry)) at (now (out .exit)) r ⌝ }
 {
-    let answer = stand::report(table, wheel(), list, 16);
+    let answer = core::report(table, wheel(), list, 16);
     printing::put_report(out, at, answer)
 }
 

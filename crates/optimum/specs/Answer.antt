@@ -18,7 +18,6 @@ use Rattle.laws.specs.Runs.{full-each}
 use Rattle.laws.specs.Gaps.{gap-most}
 use Rattle.line.specs.declared.Task.{Task}
 use Rattle.line.specs.Values.{N, L}
-use Rattle.line.specs.Packets.{head}
 use Rattle.line.specs.Tables.{Sound}
 use Rattle.optimum.specs.declared.Found.{Found}
 use Rattle.optimum.specs.Starts.{has-smallest, size-full, size-less}

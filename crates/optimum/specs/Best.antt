@@ -13,10 +13,10 @@ use Rattle.rules.specs.Best.{Meets, Best, Better, fewer, more, sooner, closer, 
 use Rattle.laws.specs.Logic.{le-or-lt, not-both}
 use Rattle.laws.specs.Sets.{within-below}
 use Rattle.laws.specs.Turns.{start-both}
-use Rattle.laws.specs.Reading.{flags, count}
+use Rattle.laws.specs.Reading.{count}
 use Rattle.laws.specs.Runs.{line, not-full}
 use Rattle.line.specs.declared.Task.{Task}
-use Rattle.line.specs.Values.{N, L, took, raised, raised-parts, Pick, slotWords, phase, worth, taking, greedy, greedy-attains, greedy-first, Attains, First, both}
+use Rattle.line.specs.Values.{N, L, took, raised, raised-parts, slotWords, phase, worth, taking, greedy, greedy-attains, greedy-first, Attains, First, both}
 use Rattle.line.specs.Packets.{opens, ahead, head}
 use Rattle.line.specs.Tables.{Sound}
 use Rattle.line.specs.Choice.{begun}

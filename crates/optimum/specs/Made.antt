@@ -1,7 +1,7 @@
 -- The set of a choice: its slots are the start and those that the choice takes. It lies within the free slots, starts at
 -- the start, keeps the gap rule, and has the size and the words of the choice.
 use mathlib.Core.Path.{_≡_, refl, sym, ap, ap₂, _∙_, subst}
-use mathlib.Core.Bool.{Bool, true, false, _&&_, cond}
+use mathlib.Core.Bool.{Bool, true, false, cond}
 use mathlib.Core.List.{List, [], _∷_}
 use mathlib.Core.Logic.{_⊎_, inl, inr}
 use Prim.Native.Nat.{ℕ, zero, suc, pred, _+_, _-_, _*_, _%_, _^_, _≤_, _<_}
@@ -22,13 +22,13 @@ use Rattle.laws.specs.Reading.{flags, count}
 use Rattle.laws.specs.Runs.{line}
 use Rattle.laws.specs.Gaps.{near-back}
 use Rattle.line.specs.declared.Task.{Task}
-use Rattle.line.specs.Values.{N, L, Pick, done, take, skip, slotWords, phase, greedy, greedy-length}
+use Rattle.line.specs.Values.{N, L, Pick, done, take, skip, slotWords, phase, greedy-length}
 use Rattle.line.specs.Packets.{opens, opens-before, opens-last, ahead, flags-length}
 use Rattle.line.specs.Tables.{Sound}
 use Rattle.line.specs.Choice.{bitsOf, begun}
 use Rattle.line.specs.Rebuild.{greedySet}
 use Rattle.optimum.specs.Cut.{clear, Near, near-of}
-use Rattle.optimum.specs.Rival.{others, size-others, words-others}
+use Rattle.optimum.specs.Rival.{size-others, words-others}
 
 -- ---- a list of flags round the wheel
 
@@ -62,7 +62,7 @@ module _ (n s : ℕ) (sn : s < n) (l : List Bool) where
           let m : s + d - n < n = omega arith in
           ap (slotFlag n s l) (mod-eq-sub-mod k ∙ mod-eq-of-lt m) ∙ flag-before d h k
 
-  pub chosen-made : (d : ℕ) → d < n → chosen n (made n s l) (s + d) ≡ getD l d false
+  chosen-made : (d : ℕ) → d < n → chosen n (made n s l) (s + d) ≡ getD l d false
   unfolding chosen made
   chosen-made d h =
       has-set (slotFlag n s l) n 0 ((s + d) % n) (mod-lt (s + d) (omega arith)) ∙ ap (slotFlag n s l) (zero-add ((s + d) % n)) ∙ flag-at d h

@@ -29,7 +29,7 @@ module _ (N x : ℕ) where
   unfolding smallestStart
   before-smallest i h = not-true (start N x i) (ap (λ j. not (start N x j)) (sym (zero-add i)) ∙ stretch-each (λ j. not (start N x j)) N 0 i h)
 
-  pub smallest-is : (i : ℕ) → i < N → start N x i ≡ true → (start N x (smallestStart N x) ≡ true) × (smallestStart N x < N)
+  smallest-is : (i : ℕ) → i < N → start N x i ≡ true → (start N x (smallestStart N x) ≡ true) × (smallestStart N x < N)
   unfolding smallestStart
   smallest-is i h e =
       let low = stretch-stops (λ j. not (start N x j)) i 0 N (ap (λ j. not (start N x j)) (zero-add i) ∙ ap not e) in
@@ -43,7 +43,7 @@ has-smallest w x e h = let (s, l, q) = some-start w x e h in smallest-is (w .n) 
 
 -- ---- flags at a distance from a start
 
-pub flags-shift : (f : ℕ → Bool) (s d m : ℕ) → flags f (s + d) m ≡ flags (λ i. f (s + i)) d m
+flags-shift : (f : ℕ → Bool) (s d m : ℕ) → flags f (s + d) m ≡ flags (λ i. f (s + i)) d m
 unfolding flags
 flags-shift f s d zero = refl
 flags-shift f s d (suc m) = ap (λ v. f (s + d) ∷ v) (ap (λ i. flags f i m) (sym (add-suc s d)) ∙ flags-shift f s (suc d) m)
@@ -70,7 +70,7 @@ count-most f i (suc m) = go (f i) (count-most f (suc i) m)
     go false h = omega arith
 
 -- fewer than all flags are set where one is not
-pub count-less : (f : ℕ → Bool) (m i d : ℕ) → d < m → f (i + d) ≡ false → count (flags f i m) < m
+count-less : (f : ℕ → Bool) (m i d : ℕ) → d < m → f (i + d) ≡ false → count (flags f i m) < m
 unfolding flags count
 count-less f zero i d h e = absurd (omega arith)
 count-less f (suc m) i zero h e = rw (ap f (sym (add-zero i)) ∙ e) (omega (arith, count-most f (suc i) m))

@@ -3,7 +3,7 @@
 ghost use mathlib.Core.Path.{_≡_};
 ghost use mathlib.Core.Bool.{true, false};
 ghost use Prim.Native.Nat.{ℕ, _+_, _-_, _*_, _^_, _<_, _≤_};
-ghost use lib.ListN.{length, getD};
+ghost use lib.ListN.{getD};
 ghost use Rattle.line.specs.Values.{raised};
 ghost use Rattle.line.specs.Packets.{packetWords};
 ghost use Rattle.line.specs.Tables.{Sound, entry};

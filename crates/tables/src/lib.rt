@@ -4,7 +4,7 @@
 ghost use mathlib.Core.Path.{_≡_};
 ghost use mathlib.Core.Bool.{cond};
 ghost use Prim.Native.Nat.{ℕ, _+_, _-_, _*_, _<_, _≤_, max, min};
-ghost use lib.ListN.{length, getD};
+ghost use lib.ListN.{length};
 ghost use Rattle.line.specs.Values.{raised};
 ghost use Rattle.line.specs.Packets.{packetWords, opens};
 ghost use Rattle.line.specs.Tables.{Sound, FreeRun, entry, mostOf, packMost};

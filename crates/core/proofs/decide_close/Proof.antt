@@ -1,34 +1,48 @@
+-- The gate's refusal, or what is decided behind it.
+use mathlib.Core.Path.{_≡_, subst}
+use mathlib.Core.Bool.{true}
+use denote.Ref.{now}
 use borrow.Author.Needs.{needs}
+use Rattle.rules.specs.Paths.{chipOf}
+use Rattle.agree.specs.Checks.{Ready}
+use Rattle.agree.specs.OneRecord.{own-walkable}
+use Rattle.core.specs.Pieces.{Gates, DecidesClose}
+use Rattle.core.specs.Gate.{shut, closes-behind}
 use Rattle.core.proofs.decide_close.Statement.{statement}
 use Rattle.core.proofs.decide_close.Tie as tie
-use Rattle.core.proofs.decide_close.Reads as reads
-use Rattle.core.proofs.decide_close.Lts as lts
-use Rattle.core.proofs.decide_flow.Reads as decide-flow-reads
-use Rattle.core.proofs.enter.Reads as enter-reads
 
--- src/lib.rt:118:9
+-- the gate was passed
+through : (c : tie.After-enum-told) → let a = c .before .before .before .before .args in Ready (chipOf (a .w) (now (a .table))) (now (a .table)) (a .n) × (a .agreed ≡ true)
+unfolding Gates
+through c =
+    let a = c .before .before .before .before .args in
+    subst (Gates (chipOf (a .w) (now (a .table))) (now (a .table)) (a .n) (a .agreed)) (c .enum-told .given .1) (c .before .before .enter .ensures)
+
 enter-requires : tie.Need-enter-requires
 enter-requires c κs = search needs
 
--- src/lib.rt:120:20
 enum-known-g : tie.Need-enum-known-g
 enum-known-g c = search needs
 
--- src/lib.rt:121:26
 enum-told : tie.Need-enum-told
 enum-told c = search needs
 
--- src/lib.rt:121:26
 decide-flow-requires : tie.Need-decide-flow-requires
-decide-flow-requires c κs = ?
+decide-flow-requires c κs =
+    let (ready, agrees) = through c in
+    (ready .legal, own-walkable _ _ _ _ (c .before .before .before .before .pre agrees) (ready .tabled) .fits)
 
--- src/lib.rt:114:1
 returns : tie.Need-returns
-returns c = ?
+unfolding Gates DecidesClose
+returns c =
+    let a = c .before .before .before .before .before .args in
+    shut _ _ _ _ _ _
+    (subst (Gates (chipOf (a .w) (now (a .table))) (now (a .table)) (a .n) (a .agreed)) (c .before .g .given .1) (c .before .before .before .enter .ensures))
 
--- src/lib.rt:114:1
 returns-2 : tie.Need-returns-2
-returns-2 c = ?
+returns-2 c =
+    let (ready, agrees) = through (c .before) in
+    closes-behind _ _ _ _ ready agrees _ _ _ (c .decide-flow .ensures _)
 
 pub decide-close-spec : {M : Type 1} → statement M
 decide-close-spec =

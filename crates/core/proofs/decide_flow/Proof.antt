@@ -1,40 +1,38 @@
+-- 8, then 10; then the cells of the record.
+use mathlib.Core.Path.{refl, sym, _∙_}
+use mathlib.Core.Logic.{inl, inr}
+use native.Mathlib.Omega.{arith}
 use borrow.Author.Needs.{needs}
+use borrow.Author.Tests.{not-true, not-false}
+use Rattle.rules.specs.Numbers.{Refuses}
+use Rattle.core.specs.Pieces.{DecidesFlow}
+use Rattle.core.specs.Gate.{listed-flow}
 use Rattle.core.proofs.decide_flow.Statement.{statement}
 use Rattle.core.proofs.decide_flow.Tie as tie
-use Rattle.core.proofs.decide_flow.Reads as reads
-use Rattle.core.proofs.decide_flow.Lts as lts
-use Rattle.flows.proofs.claims_cells.Reads as claims-cells-reads
-use Rattle.measure.proofs.size.Reads as size-reads
 
--- src/lib.rt:101:9
 returns : tie.Need-returns
-returns c = ?
+unfolding DecidesFlow Refuses
+returns c = λ _. inl (inl (omega arith), refl)
 
--- src/lib.rt:104:9
 returns-2 : tie.Need-returns-2
-returns-2 c = ?
+unfolding DecidesFlow Refuses
+returns-2 c = λ _. inl (inr (c .if2 .taken), refl)
 
--- src/lib.rt:107:9
 claims-cells-requires : tie.Need-claims-cells-requires
 claims-cells-requires c κs = search needs
 
--- src/lib.rt:108:9
 returns-3 : tie.Need-returns-3
-returns-3 c = ?
+unfolding DecidesFlow Refuses
+returns-3 c = λ _. inr (listed-flow (omega arith) (omega arith), inl (sym (c .before .claims-cells .ensures) ∙ not-true _ (c .if3 .taken), refl))
 
--- src/lib.rt:110:20
-size-requires : tie.Need-size-requires
-size-requires c κs = search needs
+cells-of-requires : tie.Need-cells-of-requires
+cells-of-requires c κs = search needs
 
--- src/lib.rt:110:20
-mul-t12 : tie.Need-mul-t12
-mul-t12 c = ?
-
--- src/lib.rt:96:1
 returns-4 : tie.Need-returns-4
-returns-4 c = ?
+unfolding DecidesFlow
+returns-4 c = λ k. (omega arith, omega arith, sym (c .before .before .claims-cells .ensures) ∙ not-false _ (c .before .if3 .left), c .cells-of .ensures k)
 
 pub decide-flow-spec : {M : Type 1} → statement M
 decide-flow-spec =
     tie.close
-    (tie.spec returns returns-2 claims-cells-requires returns-3 size-requires mul-t12 returns-4)
+    (tie.spec returns returns-2 claims-cells-requires returns-3 cells-of-requires returns-4)

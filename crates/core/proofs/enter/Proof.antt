@@ -1,42 +1,69 @@
+-- Each of the four is one test; a refusal has passed those before it.
+use mathlib.Core.Path.{refl}
+use mathlib.Core.Logic.{inl, inr}
+use native.Mathlib.Omega.{arith}
+use denote.Ref.{now}
 use borrow.Author.Needs.{needs}
+use borrow.Author.Tests.{not-true, not-false}
+use Rattle.rules.specs.Wheels.{Legal}
+use Rattle.rules.specs.Paths.{chipOf}
+use Rattle.rules.specs.Numbers.{Refuses}
+use Rattle.rules.specs.Orders.{Tabled, Listed}
+use Rattle.core.specs.Pieces.{Gates}
 use Rattle.core.proofs.enter.Statement.{statement}
 use Rattle.core.proofs.enter.Tie as tie
-use Rattle.core.proofs.enter.Reads as reads
-use Rattle.core.proofs.enter.Lts as lts
-use Rattle.measure.proofs.legal.Reads as legal-reads
-use Rattle.table.proofs.is_table.Reads as is-table-reads
 
--- src/lib.rt:75:9
+legal : (c : tie.Else1) → Legal (c .before .before .before .args .w)
+legal c = c .before .legal .ensures .yes (not-false _ (c .if1 .left))
+
+tabled : (c : tie.Else2) → let a = c .before .before .before .before .before .args in Tabled (chipOf (a .w) (now (a .table))) (now (a .table))
+tabled c = c .before .is-table .ensures (c .before .before .before .before .before .args .w) .yes (not-false _ (c .if2 .left))
+
+listed : (c : tie.Else4) → Listed (c .before .before .before .before .before .before .before .args .n)
+listed c = record { some = omega arith; most = omega arith }
+
 legal-requires : tie.Need-legal-requires
 legal-requires c κs = search needs
 
--- src/lib.rt:76:9
 returns : tie.Need-returns
-returns c = ?
+unfolding Gates Refuses
+returns c = inl (c .before .legal .ensures .no (not-true _ (c .if1 .taken)), refl)
 
--- src/lib.rt:78:9
 is-table-requires : tie.Need-is-table-requires
 is-table-requires c κs = search needs
 
--- src/lib.rt:79:9
 returns-2 : tie.Need-returns-2
-returns-2 c = ?
+unfolding Gates Refuses
+returns-2 c =
+    inr (
+      λ no. no (legal (c .before .before)),
+      inl (c .before .is-table .ensures (c .before .before .before .before .before .args .w) .no (not-true _ (c .if2 .taken)), refl),
+    )
 
--- src/lib.rt:82:9
 returns-3 : tie.Need-returns-3
-returns-3 c = ?
+unfolding Gates Refuses
+returns-3 c =
+    inr (λ no. no (legal (c .before .before .before)), inr (λ no. no (tabled (c .before)), inl (λ l. omega (arith, l .some), refl)))
 
--- src/lib.rt:85:9
 returns-4 : tie.Need-returns-4
-returns-4 c = ?
+unfolding Gates Refuses
+returns-4 c =
+    inr (λ no. no (legal (c .before .before .before .before)), inr (λ no. no (tabled (c .before .before)), inl (λ l. omega (arith, l .most), refl)))
 
--- src/lib.rt:88:9
 returns-5 : tie.Need-returns-5
-returns-5 c = ?
+unfolding Gates Refuses
+returns-5 c =
+    inr (
+      λ no. no (legal (c .before .before .before .before .before)),
+      inr (λ no. no (tabled (c .before .before .before)), inr (λ no. no (listed (c .before)), inl (not-true _ (c .if5 .taken), refl))),
+    )
 
--- src/lib.rt:72:1
 returns-6 : tie.Need-returns-6
-returns-6 c = ?
+unfolding Gates
+returns-6 c = (
+  record { legal = legal (c .before .before .before .before .before); tabled = tabled (c .before .before .before); listed = listed (c .before) },
+  not-false _ (c .if5 .left),
+)
 
 pub enter-spec : {M : Type 1} → statement M
 enter-spec =

@@ -1,17 +1,23 @@
+-- Trimmed to no entries, every path is the same.
+use mathlib.Core.Path.{_≡_, refl, _∙_}
+use mathlib.Core.List.{List, []}
+use Prim.Native.Nat.{ℕ}
 use borrow.Author.Needs.{needs}
+use Rattle.rules.specs.Sets.{listOf}
+use Rattle.rules.specs.Promises.{trimmed, closedRecord}
 use Rattle.core.proofs.no_path.Statement.{statement}
 use Rattle.core.proofs.no_path.Tie as tie
-use Rattle.core.proofs.no_path.Reads as reads
-use Rattle.core.proofs.no_path.Lts as lts
-use Rattle.flows.proofs.trim.Reads as trim-reads
 
--- src/lib.rt:50:5
+all-zeros : (path : List ℕ) → trimmed path 0 ≡ trimmed [] 0
+unfolding trimmed listOf
+all-zeros path = refl
+
 trim-requires : tie.Need-trim-requires
 trim-requires c κs = search needs
 
--- src/lib.rt:46:1
 returns : tie.Need-returns
-returns c = ?
+unfolding closedRecord
+returns c = c .trim .ensures ∙ all-zeros _
 
 pub no-path-spec : {M : Type 1} → statement M
 no-path-spec = tie.close (tie.spec trim-requires returns)

@@ -1,38 +1,51 @@
+-- The gate's refusal, or the totals.
+use mathlib.Core.Path.{_≡_, refl, subst}
+use mathlib.Core.Bool.{true}
+use native.Mathlib.Omega.{arith}
+use native.Mathlib.Nat.{mul-le-mul}
+use denote.Ref.{now}
 use borrow.Author.Needs.{needs}
+use Rattle.rules.specs.Paths.{chipOf}
+use Rattle.agree.specs.Checks.{Ready}
+use Rattle.core.specs.Pieces.{Gates, ReportsOne}
 use Rattle.core.proofs.report_one.Statement.{statement}
 use Rattle.core.proofs.report_one.Tie as tie
-use Rattle.core.proofs.report_one.Reads as reads
-use Rattle.core.proofs.report_one.Lts as lts
-use Rattle.core.proofs.enter.Reads as enter-reads
-use Rattle.core.proofs.less.Reads as less-reads
 
--- src/lib.rt:166:9
+-- the gate was passed
+through : (c : tie.After-enum-told) → let a = c .before .before .before .before .args in Ready (chipOf (a .w) (now (a .table))) (now (a .table)) (a .n) × (a .agreed ≡ true)
+unfolding Gates
+through c =
+    let a = c .before .before .before .before .args in
+    subst (Gates (chipOf (a .w) (now (a .table))) (now (a .table)) (a .n) (a .agreed)) (c .enum-told .given .1) (c .before .before .enter .ensures)
+
 enter-requires : tie.Need-enter-requires
 enter-requires c κs = search needs
 
--- src/lib.rt:168:20
 enum-known-g : tie.Need-enum-known-g
 enum-known-g c = search needs
 
--- src/lib.rt:170:25
 enum-told : tie.Need-enum-told
 enum-told c = search needs
 
--- src/lib.rt:170:25
 mul-cells : tie.Need-mul-cells
-mul-cells c = ?
+mul-cells c =
+    let ready = through (c .before) .0 in
+    omega (arith, mul-le-mul (ready .tabled .c64) (ready .legal .n64))
 
--- src/lib.rt:172:23
 less-requires : tie.Need-less-requires
 less-requires c κs = search needs
 
--- src/lib.rt:163:1
 returns : tie.Need-returns
-returns c = ?
+unfolding Gates ReportsOne
+returns c =
+    let a = c .before .before .before .before .before .args in
+    subst (Gates (chipOf (a .w) (now (a .table))) (now (a .table)) (a .n) (a .agreed)) (c .before .g .given .1) (c .before .before .before .enter .ensures)
 
--- src/lib.rt:163:1
 returns-2 : tie.Need-returns-2
-returns-2 c = ?
+unfolding ReportsOne
+returns-2 c =
+    let (ready, agrees) = through (c .before .before) in
+    (ready, agrees, refl, c .less .ensures)
 
 pub report-one-spec : {M : Type 1} → statement M
 report-one-spec =

@@ -2,8 +2,6 @@
 use mathlib.Core.Path.{refl}
 use native.Mathlib.Omega.{arith}
 use borrow.Author.Needs.{needs}
-use Rattle.line.specs.Tables.{Sound}
-use Rattle.line.specs.declared.Task.{Task}
 use Rattle.optimum.specs.Answer.{one-grants, none-grants, found-grants}
 use Rattle.engine.proofs.best.Statement.{statement}
 use Rattle.engine.proofs.best.Tie as tie

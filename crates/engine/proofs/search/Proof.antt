@@ -3,8 +3,7 @@ use mathlib.Core.Path.{_≡_, refl, _∙_}
 use Prim.Native.Nat.{_-_, _≤_}
 use native.Mathlib.Omega.{arith}
 use lib.ListN.{length}
-use Rattle.line.specs.Values.{P}
-use Rattle.optimum.specs.Search.{Sofar, Short, sofar-none, sofar-range, short-none, all-hopeless}
+use Rattle.optimum.specs.Search.{Sofar, sofar-none, sofar-range, short-none, all-hopeless}
 use Rattle.engine.proofs.search.Statement.{statement}
 use Rattle.engine.proofs.search.Tie as tie
 

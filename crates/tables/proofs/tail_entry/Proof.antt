@@ -1,9 +1,10 @@
 -- The cases of an entry: no slot left to take, the limit cuts nothing, or a window of heads.
-use mathlib.Core.Path.{refl, ap, _∙_}
-use Prim.Native.Nat.{_+_, _-_}
+use mathlib.Core.Path.{_≡_, refl, ap, _∙_}
+use Prim.Native.Nat.{_+_, _-_, min}
 use native.Mathlib.Omega.{arith}
 use borrow.Author.Needs.{needs}
 use denote.Ref.{now}
+use Rattle.line.specs.Values.{N, L}
 use Rattle.line.specs.Tables.{mostOf}
 use Rattle.line.specs.Rows.{tail-of-one, tail-of-none, tail-of-far, tail-of-window}
 use Rattle.tables.proofs.tail_entry.Statement.{statement}
@@ -84,8 +85,9 @@ window-requires c κs = search needs
 returns-4 : tie.Need-returns-4
 returns-4 c =
     let a = c .before .before .before .before .before .before .args in
+    let end : c .before .smaller .result ≡ min (a .e + L (a .task) + 1) (N (a .task) - 1) = omega (arith, c .before .smaller .ensures) in
     tail-of-window _ _ _ _ _ _ (omega arith) (λ z. omega arith) (omega arith)
-    (c .window .ensures ∙ ap (λ m. mostOf (now (a .heads)) (a .k) (a .e + 2) (m - (a .e + 2))) (c .before .smaller .ensures))
+    (c .window .ensures ∙ ap (λ m. mostOf (now (a .heads)) (a .k) (a .e + 2) (m - (a .e + 2))) end)
 
 pub tail-entry-spec : {M : Type 1} → statement M
 tail-entry-spec =
