@@ -61,10 +61,10 @@ fn open_line(p: Parsed, table: &mut [u8], list: [Record; 64], out: &mut [u8], at
     };
     let r = core::open(table, wheel(), list, 16, flow, path, p.len, demand);
     let answer = r.answer;
-    let after = r.list;
+    let opened = r.list;
     let place = printing::put_open(out, at, flow, answer);
     Answered {
-        list: after,
+        list: opened,
         place: place,
     }
 }
