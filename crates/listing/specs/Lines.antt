@@ -9,13 +9,13 @@ use Rattle.rules.specs.declared.Opened.{Opened}
 use Rattle.rules.specs.declared.Cleared.{Cleared}
 use Rattle.rules.specs.declared.Reported.{Reported}
 use Rattle.rules.specs.Paths.{chipOf}
-use Rattle.rules.specs.Promises.{Opens, Closes, Reports}
+use Rattle.rules.specs.Promises.{Opens}
 use Rattle.grammar.specs.Answers.{openText, closeText, reportText, badText}
 use Rattle.grammar.specs.Commands.{opening, closing, reporting, Reads, Bad}
 use Rattle.reading.specs.declared.Parsed.{Parsed}
 use Rattle.reading.specs.Meaning.{Opening}
 use Rattle.printing.specs.Puts.{Puts, puts-then}
-use Rattle.listing.specs.Listing.{wheel, State, Step, opens, closes, reports, bad}
+use Rattle.listing.specs.Listing.{wheel, State, ClosesFrom, ReportsFrom, Step, opens, closes, reports, bad}
 use Rattle.listing.specs.Short.{open-short, close-short, report-short, bad-short, reads-long}
 
 abbrev pub state : List ℕ → List Record → State
@@ -26,14 +26,6 @@ abbrev pub OpenAnswer : Parsed → State → State → Opened → Type 0
 OpenAnswer p s s′ =
     Opens (chipOf wheel (s .table)) (s .table) 16 (s .list) (p .path) (p .len) (p .flow)
     (record { words = record { 0 = p .words }; deadline = p .deadline }) (s′ .table) (s′ .list)
-
--- to a closing
-abbrev pub CloseAnswer : Parsed → State → State → Cleared → Type 0
-CloseAnswer p s s′ = Closes (chipOf wheel (s .table)) (s .table) 16 (s .list) (p .flow) (s′ .table) (s′ .list)
-
--- to a report
-abbrev pub ReportAnswer : State → Reported → Type 0
-ReportAnswer s = Reports (chipOf wheel (s .table)) (s .table) 16 (s .list)
 
 pub opened-short : (p : Parsed) (s s′ : State) (a : Opened) → OpenAnswer p s s′ a → length (openText (p .flow) a) ≤ 83
 opened-short p s s′ a o =
@@ -49,13 +41,13 @@ pub record OpenLine (p : Parsed) (s s′ : State) (old : List ℕ) (at : ℕ) (n
 -- a closing
 pub record CloseLine (p : Parsed) (s s′ : State) (old : List ℕ) (at : ℕ) (new : List ℕ) (place : ℕ) : Type 0 where
   pub answer : Cleared
-  pub closes : CloseAnswer p s s′ answer
+  pub closes : ClosesFrom s (p .flow) s′ answer
   pub puts : Puts old at (closeText (p .flow) answer) new place
 
 -- a report: table and list stay
 pub record ReportLine (s : State) (old : List ℕ) (at : ℕ) (new : List ℕ) (place : ℕ) : Type 0 where
   pub answer : Reported
-  pub reports : ReportAnswer s answer
+  pub reports : ReportsFrom s answer
   pub puts : Puts old at (reportText answer) new place
 
 -- line k got its text; at most 14 bytes for each of its own, its line feed counted in

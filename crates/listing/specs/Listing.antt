@@ -25,17 +25,26 @@ pub record State : Type 0 where
   pub table : List ℕ
   pub list : List Record
 
+-- the library's promises on 16 flows and the default wheel, from the state s to the state s′
+abbrev pub OpensFrom : State → (f W D : ℕ) (channels : List ℕ) → State → Opened → Type 0
+OpensFrom s f W D channels s′ =
+    Opens (chipOf wheel (s .table)) (s .table) 16 (s .list) (trimmed channels (length channels)) (length channels) f
+    (record { words = record { 0 = W }; deadline = D }) (s′ .table) (s′ .list)
+
+abbrev pub ClosesFrom : State → ℕ → State → Cleared → Type 0
+ClosesFrom s f s′ = Closes (chipOf wheel (s .table)) (s .table) 16 (s .list) f (s′ .table) (s′ .list)
+
+abbrev pub ReportsFrom : State → Reported → Type 0
+ReportsFrom s = Reports (chipOf wheel (s .table)) (s .table) 16 (s .list)
+
 -- ---- one line
 
 -- line k, and the text that it gets; s and s′ are table and list before and after
 pub data Step (s : State) (k : ℕ) (line : List ℕ) (s′ : State) (text : List ℕ) : Type 0 where
-  opens : (f W D : ℕ) (channels : List ℕ) (a : Opened) → Reads line (opening f W D channels)
-      → Opens (chipOf wheel (s .table)) (s .table) 16 (s .list) (trimmed channels (length channels)) (length channels) f (record { words = record { 0 = W }; deadline = D }) (s′ .table) (s′ .list) a
+  opens : (f W D : ℕ) (channels : List ℕ) (a : Opened) → Reads line (opening f W D channels) → OpensFrom s f W D channels s′ a
       → text ≡ openText f a → Step s k line s′ text
-  closes : (f : ℕ) (a : Cleared) → Reads line (closing f) → Closes (chipOf wheel (s .table)) (s .table) 16 (s .list) f (s′ .table) (s′ .list) a
-      → text ≡ closeText f a → Step s k line s′ text
-  reports : (a : Reported) → Reads line reporting → Reports (chipOf wheel (s .table)) (s .table) 16 (s .list) a → s′ ≡ s
-      → text ≡ reportText a → Step s k line s′ text
+  closes : (f : ℕ) (a : Cleared) → Reads line (closing f) → ClosesFrom s f s′ a → text ≡ closeText f a → Step s k line s′ text
+  reports : (a : Reported) → Reads line reporting → ReportsFrom s a → s′ ≡ s → text ≡ reportText a → Step s k line s′ text
   bad : Bad line → s′ ≡ s → text ≡ badText k → Step s k line s′ text
 
 -- ---- all lines

@@ -11,8 +11,6 @@ use Rattle.rules.specs.declared.Record.{Record}
 use Rattle.rules.specs.declared.Opened.{Opened}
 use Rattle.rules.specs.declared.Cleared.{Cleared}
 use Rattle.rules.specs.declared.Reported.{Reported}
-use Rattle.rules.specs.Paths.{chipOf}
-use Rattle.rules.specs.Promises.{trimmed, Opens, Closes, Reports}
 use Rattle.rules.specs.Flows.{none}
 use Rattle.laws.specs.Logic.{le-or-lt}
 use Rattle.ledger.specs.Calls.{opens-unique, closes-unique, reports-unique}
@@ -20,17 +18,14 @@ use Rattle.grammar.specs.Text.{lines}
 use Rattle.grammar.specs.Commands.{Command, opening, closing, reporting, Reads, Bad}
 use Rattle.grammar.specs.Answers.{openText, closeText, reportText, badText}
 use Rattle.grammar.specs.Spelling.{reads-once}
-use Rattle.listing.specs.Listing.{wheel, State, Step, opens, closes, reports, bad, Prints, end, next, Blanks, Fresh, Lists, Writes}
+use Rattle.listing.specs.Listing.{State, OpensFrom, ClosesFrom, ReportsFrom, Step, opens, closes, reports, bad, Prints, end, next, Blanks, Fresh, Lists, Writes}
 
 -- what was done for a command: the promise with its answer, and the answer's text
 Did : State → Command → State → List ℕ → Type 0
 Did s (opening f W D cs) u text =
-    (a : Opened)
-    × Opens (chipOf wheel (s .table)) (s .table) 16 (s .list) (trimmed cs (length cs)) (length cs) f (record { words = record { 0 = W }; deadline = D })
-    (u .table) (u .list) a
-    × (text ≡ openText f a)
-Did s (closing f) u text = (a : Cleared) × Closes (chipOf wheel (s .table)) (s .table) 16 (s .list) f (u .table) (u .list) a × (text ≡ closeText f a)
-Did s reporting u text = (a : Reported) × Reports (chipOf wheel (s .table)) (s .table) 16 (s .list) a × (u ≡ s) × (text ≡ reportText a)
+    (a : Opened) × OpensFrom s f W D cs u a × (text ≡ openText f a)
+Did s (closing f) u text = (a : Cleared) × ClosesFrom s f u a × (text ≡ closeText f a)
+Did s reporting u text = (a : Reported) × ReportsFrom s a × (u ≡ s) × (text ≡ reportText a)
 
 -- a line is a command that was carried out, or it is bad
 record Carried (s : State) (line : List ℕ) (u : State) (text : List ℕ) : Type 0 where

@@ -19,7 +19,8 @@ module _ (f : ℕ → Bool) where
   places-last i zero = rw (add-zero i)
   places-last i (suc m) =
       let same : suc i + m ≡ i + suc m = suc-add i m ∙ sym (add-suc i m) in
-      go (f i) (places f (suc i) (suc m)) (places f (suc i) m) (cond (f (i + suc m)) ((i + suc m) ∷ []) []) (places-last (suc i) m ∙ ap (λ j. places f (suc i) m ++ cond (f j) (j ∷ []) []) same)
+      let tail = places-last (suc i) m ∙ ap (λ j. places f (suc i) m ++ cond (f j) (j ∷ []) []) same in
+      go (f i) (places f (suc i) (suc m)) (places f (suc i) m) (cond (f (i + suc m)) ((i + suc m) ∷ []) []) tail
     where
       go : (b : Bool) (xs ys zs : List ℕ) → xs ≡ ys ++ zs → cond b (i ∷ xs) xs ≡ cond b (i ∷ ys) ys ++ zs
       go true xs ys zs e = ap (λ l. i ∷ l) e

@@ -39,7 +39,15 @@ module _ (line : List ℕ) (r : Fields) (b : Begins line open-bytes) (f : Fields
       omega (arith, ap length same, count-long)
 
   pub means-open : 3 ≤ r .count
-      → Opening line (record { verb = verb.Open; flow = getD (r .values) 0 0; words = getD (r .values) 1 0; deadline = getD (r .values) 2 0; path = trimmed (drop 3 (r .values)) (r .count - 3); len = r .count - 3 })
+      → Opening line
+      (record {
+        verb = verb.Open;
+        flow = getD (r .values) 0 0;
+        words = getD (r .values) 1 0;
+        deadline = getD (r .values) 2 0;
+        path = trimmed (drop 3 (r .values)) (r .count - 3);
+        len = r .count - 3;
+      })
   means-open h =
       let vs = r .values in
       let m = r .count - 3 in

@@ -2,7 +2,8 @@
 use native.Mathlib.Omega.{arith}
 use borrow.Author.Needs.{needs}
 use Rattle.listing.specs.Short.{close-short}
-use Rattle.listing.specs.Lines.{state, CloseAnswer}
+use Rattle.listing.specs.Lines.{state}
+use Rattle.listing.specs.Listing.{ClosesFrom}
 use Rattle.listing.proofs.close_line.Statement.{statement}
 use Rattle.listing.proofs.close_line.Tie as tie
 
@@ -17,7 +18,7 @@ close-requires c κs = search needs
 
 -- what the core promises
 closed : (c : tie.After-close)
-    → CloseAnswer (c .before .before .before .before .before .before .args .p) (state (c .before .before .before .before .before .before .args .table .now) (c .before .before .before .before .before .before .args .list)) (state (c .close .last .0) (c .close .result .list))
+    → ClosesFrom (state (c .before .before .before .before .before .before .args .table .now) (c .before .before .before .before .before .before .args .list)) (c .before .before .before .before .before .before .args .p .flow) (state (c .close .last .0) (c .close .result .list))
     (c .close .result .answer)
 closed c = rw (c .before .wheel .ensures, c .before .before .before .wide .ensures) at (c .close .ensures)
 
