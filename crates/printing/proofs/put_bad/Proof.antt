@@ -1,0 +1,55 @@
+-- `line` and the number, then `bad`.
+use mathlib.Core.List.{List, _++_}
+use Prim.Native.Nat.{ℕ, _+_, _≤_}
+use borrow.Author.Needs.{needs}
+use lib.ListN.{length}
+use Rattle.rules.specs.Sets.{listOf}
+use Rattle.grammar.specs.Text.{ascii, field}
+use Rattle.grammar.specs.Answers.{badText}
+use Rattle.printing.specs.Puts.{puts-then, room-first, room-second}
+use Rattle.printing.proofs.put_bad.Statement.{statement}
+use Rattle.printing.proofs.put_bad.Tie as tie
+
+-- the two parts of the text
+abbrev front : tie.Start → List ℕ
+front st = ascii "line" ++ field (st .args .k)
+
+abbrev back : tie.Start → List ℕ
+back st = ascii " bad"
+
+-- both fit
+room : (st : tie.Start) → st .args .at + length (front st ++ back st) ≤ length (st .args .out .now)
+unfolding badText
+room st = st .pre
+
+slice-aggregate-put-labelled : tie.Need-slice-aggregate-put-labelled
+slice-aggregate-put-labelled c = search needs
+
+put-labelled-requires : tie.Need-put-labelled-requires
+unfolding badText ascii listOf
+put-labelled-requires c κs = let st = c .before .before .before in room-first (st .args .out .now) (st .args .at) (front st) (back st) (room st)
+
+slice-aggregate-put : tie.Need-slice-aggregate-put
+slice-aggregate-put c = search needs
+
+put-requires : tie.Need-put-requires
+unfolding badText ascii listOf
+put-requires c κs = let st = c .before .before .before .before .before .before .before .before in room-second (front st) (back st) (c .before .before .before .before .put-labelled .ensures) (room st)
+
+same-length : tie.Need-same-length
+same-length c = search needs
+
+returns : tie.Need-returns
+unfolding badText ascii listOf
+returns c = let st = c .before .before .before .before .before .before .before .before .before .before .before in puts-then (front st) (back st) (c .before .before .before .before .before .before .before .put-labelled .ensures) (c .before .before .put .ensures) (room st)
+
+pub put-bad-spec : {M : Type 1} → statement M
+put-bad-spec =
+    tie.close
+    (tie.spec
+    slice-aggregate-put-labelled
+    put-labelled-requires
+    slice-aggregate-put
+    put-requires
+    same-length
+    returns)

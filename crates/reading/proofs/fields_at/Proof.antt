@@ -1,0 +1,107 @@
+-- The loop reads one field a turn.
+use mathlib.Core.Path.{_≡_}
+use Prim.Native.Nat.{_+_, _-_}
+use native.Mathlib.Omega.{arith}
+use borrow.Author.Tests.{not-true, not-false}
+use lib.ListN.{length}
+use Rattle.reading.specs.Meaning.{NumberAt}
+use Rattle.reading.specs.Digits.{was-found, was-missing}
+use Rattle.reading.specs.Columns.{Going, going-start, going-on, going-end, too-many, no-space, not-numbered, no-split}
+use Rattle.reading.proofs.fields_at.Statement.{statement}
+use Rattle.reading.proofs.fields_at.Tie as tie
+
+abbrev Inv-loop : tie.InvT-loop
+Inv-loop line at values₀ count₀ i₀ values count i = Going line at values count i
+
+abbrev μ-loop : tie.MeasureT-loop
+μ-loop line at values₀ count₀ i₀ values count i = length line - i
+
+zeros-requires : tie.Need-zeros-requires Inv-loop μ-loop
+zeros-requires c κs = tt
+
+loop-holds : tie.Need-loop-holds Inv-loop μ-loop
+loop-holds c = going-start _ _ _ (c .zeros .ensures)
+
+no-fields-requires : tie.Need-no-fields-requires Inv-loop μ-loop
+no-fields-requires c κs = tt
+
+returns : tie.Need-returns Inv-loop μ-loop
+returns c =
+    let at = c .before .before .before .loop in
+    let all : at .count ≡ 19 = omega (arith, c .before .if1 .taken, at .inv .most) in
+    no-split _ _ _ (c .no-fields .ensures) (too-many _ _ _ _ _ (at .inv) (c .before .before .loop-test .taken) all)
+
+shared-slice-read-if2 : tie.Need-shared-slice-read-if2 Inv-loop μ-loop
+shared-slice-read-if2 c = omega arith
+
+no-fields-requires-2 : tie.Need-no-fields-requires-2 Inv-loop μ-loop
+no-fields-requires-2 c κs = tt
+
+returns-2 : tie.Need-returns-2 Inv-loop μ-loop
+returns-2 c =
+    let at = c .before .before .before .before .before .loop in
+    no-split _ _ _ (c .no-fields2 .ensures) (no-space _ _ _ _ _ (at .inv) (c .before .before .before .before .loop-test .taken) (c .before .if2 .taken))
+
+add-number-at : tie.Need-add-number-at Inv-loop μ-loop
+add-number-at c = omega arith
+
+number-at-requires : tie.Need-number-at-requires Inv-loop μ-loop
+number-at-requires c κs = tt
+
+no-fields-requires-3 : tie.Need-no-fields-requires-3 Inv-loop μ-loop
+no-fields-requires-3 c κs = tt
+
+returns-3 : tie.Need-returns-3 Inv-loop μ-loop
+returns-3 c =
+    let at = c .before .before .before .before .before .before .before .before .loop in
+    no-split _ _ _ (c .no-fields3 .ensures)
+    (not-numbered _ _ _ _ _ (at .inv) (c .before .before .before .before .before .before .before .loop-test .taken) (was-missing _ _ _ (c .before .before .before .number-at .ensures) (not-true _ (c .before .if3 .taken))))
+
+mul-values : tie.Need-mul-values Inv-loop μ-loop
+mul-values c = omega arith
+
+array-write-values : tie.Need-array-write-values Inv-loop μ-loop
+array-write-values c = omega (arith, c .before .before .before .before .before .before .before .loop .inv .most, c .before .before .before .before .before .if1 .left)
+
+add-count : tie.Need-add-count Inv-loop μ-loop
+add-count c = omega arith
+
+-- the number that the turn has read
+number-there : (c : tie.Else3 Inv-loop μ-loop)
+    → NumberAt (c .before .before .before .before .before .before .before .before .before .before .args .line .now) (c .before .before .before .before .before .before .before .loop .i + 1) (c .before .before .number-at .result .value) (c .before .before .number-at .result .next)
+number-there c = was-found _ _ _ (c .before .before .number-at .ensures) (not-false _ (c .if3 .left))
+
+loop-less : tie.Need-loop-less Inv-loop μ-loop
+loop-less c = omega (arith, c .before .before .before .before .before .before .loop-test .taken, number-there c .on)
+
+loop-again : tie.Need-loop-again Inv-loop μ-loop
+loop-again c =
+    let at = c .before .before .before .before .before .before .before .loop in
+    going-on _ _ _ _ _ (at .inv) (c .before .before .before .before .before .before .loop-test .taken) _ _ (c .before .before .before .if2 .left) (number-there c) (c .before .before .before .before .before .if1 .left)
+
+returns-4 : tie.Need-returns-4 Inv-loop μ-loop
+returns-4 c = going-end _ _ _ _ _ (c .before .loop .inv) (c .loop-test .left)
+
+pub fields-at-spec : {M : Type 1} → statement M
+fields-at-spec =
+    tie.close
+    (tie.spec
+    Inv-loop
+    μ-loop
+    zeros-requires
+    loop-holds
+    no-fields-requires
+    returns
+    shared-slice-read-if2
+    no-fields-requires-2
+    returns-2
+    add-number-at
+    number-at-requires
+    no-fields-requires-3
+    returns-3
+    mul-values
+    array-write-values
+    add-count
+    loop-less
+    loop-again
+    returns-4)

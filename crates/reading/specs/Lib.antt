@@ -1,0 +1,6 @@
+pub mod Meaning
+pub mod Verbs
+pub mod Digits
+pub mod Columns
+pub mod Paths
+pub mod Orders
