@@ -83,10 +83,6 @@ module _ (chip : Chip) (t : List ℕ) (n : ℕ) (list : List Record) (long : len
 
   -- ---- the calls, from what was told of the whole list and done with one record
 
-  pub settled : (c : Checked) (a : Bool) → Checks chip t n list n c → Tells a ((c .ok ≡ true) × (usedCells t ≡ c .held))
-      → Tells a (Agrees chip t (length list) list)
-  settled c a k told = subst (λ m. Tells a (Agrees chip t m list)) (sym long) (settles chip t n list c a k told)
-
   pub reports-lent : (c : Checked) (a : Bool) (r : Reported) → Checks chip t n list n c → Tells a ((c .ok ≡ true) × (usedCells t ≡ c .held))
       → ReportsOne chip t n a (c .held) r → Reports chip t (length list) list r
   reports-lent c a r k told p =
