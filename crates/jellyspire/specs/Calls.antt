@@ -10,7 +10,6 @@ use lib.ListN.{length, set}
 use borrow.Author.Tests.{lt-ltb, le-ltb}
 use Rattle.rules.specs.Tells.{Tells}
 use Rattle.rules.specs.declared.Demand.{Demand}
-use Rattle.rules.specs.declared.State.{State}
 use Rattle.rules.specs.declared.Record.{Record}
 use Rattle.rules.specs.declared.Reported.{Reported}
 use Rattle.rules.specs.Wheels.{Legal}
