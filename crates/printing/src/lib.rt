@@ -74,27 +74,11 @@ fn put_labelled(out: &mut [u8], at: usize, label: &[u8], n: usize) -> usize
     put_field(out, next, n)
 }
 
-// Document 01's number of a refusal.
+// Document 01's number of a refusal, as wide as every number here.
 fn number_of(r: Refusal) -> usize
     ensures { λ n. ⌜ n ≡ number r ⌝ }
 {
-    match r {
-        Refusal::BadWheel => 1,
-        Refusal::BadTable => 2,
-        Refusal::BadList => 3,
-        Refusal::Disagree => 4,
-        Refusal::PathLength => 5,
-        Refusal::NoChannel => 6,
-        Refusal::ChannelTwice => 7,
-        Refusal::NoFlow => 8,
-        Refusal::AlreadyOpen => 9,
-        Refusal::NotOpen => 10,
-        Refusal::NoWords => 11,
-        Refusal::NoTime => 12,
-        Refusal::TooMuch => 13,
-        Refusal::TooFar => 14,
-        Refusal::SlotBeyond => 15,
-    }
+    numbers::number(r) as usize
 }
 
 // A refusal, behind the verb and the flow.
