@@ -7,7 +7,7 @@
 #include <stdlib.h>
 
 #define SETS 50
-#define TRIES 3
+#define AGAIN 3
 
 typedef struct {
     const char *name;
@@ -92,8 +92,8 @@ static void table(int n)
     }
 }
 
-// 100,000 random inputs at N 64: every legal wheel, every density, demands that can often just be met. The time of an input is
-// the shortest of three calls, as an interrupt is no part of it.
+// 100,000 random inputs at N 64: every legal wheel, every density, demands that can often just be met. A call that
+// seems the worst is timed three times more and its shortest time counts, as an interrupt is no part of it.
 static void random_inputs(void)
 {
     uint64_t state = 2463534242u;
@@ -105,14 +105,16 @@ static void random_inputs(void)
         uint64_t free = random_set(&state, 64, 5 + (int)(next_random(&state) % 96));
         int most = published_words(64, s, h, (int)w.p, free), gap = published_gap(64, free);
         int words = 1 + (int)(next_random(&state) % (uint64_t)(most + 1)), limit = gap + (int)(next_random(&state) % 20);
-        jellyspire_selection a = {0, 0, 0, 0};
-        double spent = 1;
-        for (int try = 0; try < TRIES; try++) {
-            double start = seconds();
-            a = jellyspire_select(w, free, (uint16_t)words, (uint16_t)(limit ? limit : 1));
-            double this = seconds() - start;
-            if (this < spent)
-                spent = this;
+        uint16_t most_gap = (uint16_t)(limit ? limit : 1);
+        double start = seconds();
+        jellyspire_selection a = jellyspire_select(w, free, (uint16_t)words, most_gap);
+        double spent = seconds() - start;
+        for (int again = 0; worst < spent && again < AGAIN; again++) {
+            start = seconds();
+            sink += jellyspire_select(w, free, (uint16_t)words, most_gap).slots;
+            double once_more = seconds() - start;
+            if (once_more < spent)
+                spent = once_more;
         }
         sink += a.slots;
         granted += a.number == 0;

@@ -226,7 +226,28 @@ fn largest_values() {
     );
 }
 
-// One selection beside the search apart.
+// The literal search apart, which measures every set anew.
+fn literal(w: Wheel, free: u64, words: u16, limit: u16) -> Found {
+    let n = long(w.n);
+    let s = wide(w.s.0);
+    let h = wide(w.h.0);
+    apart::search(n, s, h, long(w.p), free, wide(words), wide(limit))
+}
+
+// What both searches apart found; no answer of the library's where they differ.
+fn agreed(a: Found, b: Found) -> Found {
+    if one_if_not(a, b) == 0 {
+        return a;
+    }
+    Found {
+        no: 99,
+        slots: 0,
+        count: 0,
+        words: 0,
+    }
+}
+
+// One selection beside the search apart, from tables and, on small wheels, the literal one.
 fn one(
     t: Tally,
     words_of: &[u64; 1024],
@@ -250,7 +271,10 @@ fn one(
         wide(words),
         wide(limit),
     );
-    noted(t, a, b)
+    if 5 < w.n {
+        return noted(t, a, b);
+    }
+    noted(t, a, agreed(b, literal(w, free, words, limit)))
 }
 
 // Every limit up to `last`, which is one above N.
