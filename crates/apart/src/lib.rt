@@ -320,19 +320,28 @@ fn refused(no: u64) -> Found {
     }
 }
 
-// Bare selection by going through every set of free slots, for wheels of at most 16 slots.
-pub fn search(n: u64, s: u64, h: u64, p: u64, free: u64, wanted: u64, limit: u64) -> Found {
+// The refusal that is given before any set is looked at, 1, 15, 11 or 12; 0 for none.
+fn unasked(n: u64, s: u64, h: u64, p: u64, free: u64, wanted: u64, limit: u64) -> u64 {
     if !fits(n, s, h, p) {
-        return refused(1);
+        return 1;
     }
     if cut(free, n) != free {
-        return refused(15);
+        return 15;
     }
     if wanted == 0 {
-        return refused(11);
+        return 11;
     }
     if limit == 0 {
-        return refused(12);
+        return 12;
+    }
+    0
+}
+
+// Bare selection by going through every set of free slots, for wheels of at most 16 slots.
+pub fn search(n: u64, s: u64, h: u64, p: u64, free: u64, wanted: u64, limit: u64) -> Found {
+    let no = unasked(n, s, h, p, free, wanted, limit);
+    if no != 0 {
+        return refused(no);
     }
     if 16 < n {
         return refused(99);
@@ -349,5 +358,197 @@ pub fn search(n: u64, s: u64, h: u64, p: u64, free: u64, wanted: u64, limit: u64
         slots: best,
         count: size(best),
         words: words(n, s, h, p, best),
+    }
+}
+
+// The same search from tables, in which each set of a wheel of at most ten slots is measured once:
+// words, largest gap and rank of the set x stand at x. It is quick enough for millions of searches.
+
+// A number of slots or a set, as a plain number.
+fn long(v: usize) -> u64 {
+    v as u64
+}
+
+// A set, to look it up in a table.
+fn index(v: u64) -> usize {
+    v as usize
+}
+
+// How far v lies below `top`; 0 where it does not.
+fn under(v: u64, top: u64) -> u64 {
+    if top < v { 0 } else { top - v }
+}
+
+// The digits of x, and one more.
+fn followed(x: u64, here: bool) -> u64 {
+    if here { (x << 1) | 1 } else { x << 1 }
+}
+
+// The set x read from its smallest start on, the first slot as the highest digit. Of two sets with
+// the same size and start, the larger number has the smaller distance where the lists first differ.
+fn mirror(n: u64, x: u64) -> u64 {
+    let mut slot = smallest_start(n, x);
+    let mut image = 0;
+    let mut d = 0;
+    while d < n {
+        image = followed(image, chosen(x, slot));
+        slot = next(n, slot);
+        d += 1;
+    }
+    image
+}
+
+// The rank of a set of a wheel of at most 16 slots, smaller for the better set (rule 6): its size,
+// how far its words lie below 8191, its smallest start and its mirror, each in digits of its own.
+pub fn rank(n: u64, s: u64, h: u64, p: u64, x: u64) -> u64 {
+    let few = size(x) << 48;
+    let many = under(words(n, s, h, p, x), 8191) << 32;
+    let soon = smallest_start(n, x) << 24;
+    few | many | soon | under(mirror(n, x), 65535)
+}
+
+// Fills the table of words.
+pub fn list_words(words_of: &mut [u64; 1024], n: u64, s: u64, h: u64, p: u64) {
+    let mut x = 0;
+    while x < 1024 {
+        let v = words(n, s, h, p, long(x));
+        words_of[x] = v;
+        x += 1;
+    }
+}
+
+// Fills the table of largest gaps.
+pub fn list_gaps(gap_of: &mut [u64; 1024], n: u64) {
+    let mut x = 0;
+    while x < 1024 {
+        let v = largest_gap(n, long(x));
+        gap_of[x] = v;
+        x += 1;
+    }
+}
+
+// Fills the table of ranks.
+pub fn list_ranks(rank_of: &mut [u64; 1024], n: u64, s: u64, h: u64, p: u64) {
+    let mut x = 0;
+    while x < 1024 {
+        let v = rank(n, s, h, p, long(x));
+        rank_of[x] = v;
+        x += 1;
+    }
+}
+
+// What the table says of the set x; 0 past its end.
+fn at(table: &[u64; 1024], x: usize) -> u64 {
+    if x < 1024 { table[x] } else { 0 }
+}
+
+// Whether y names free slots only.
+fn inside(free: usize, y: usize) -> bool {
+    y & free == y
+}
+
+// The most words that a set of free slots delivers.
+pub fn most_words(words_of: &[u64; 1024], free: u64) -> u64 {
+    let mut most = 0;
+    let mut y = 0;
+    while y < 1024 {
+        if inside(index(free), y) {
+            most = larger(most, at(words_of, y));
+        }
+        y += 1;
+    }
+    most
+}
+
+// Whether some set of free slots delivers the words.
+fn some_listed(words_of: &[u64; 1024], free: usize, wanted: u64) -> bool {
+    let mut y = free;
+    while 0 < y {
+        if inside(free, y) && wanted <= at(words_of, y) {
+            return true;
+        }
+        y -= 1;
+    }
+    false
+}
+
+// The better of `best`, 0 for none yet, and the set y of free slots if it meets the demand.
+fn kept_listed(
+    words_of: &[u64; 1024],
+    gap_of: &[u64; 1024],
+    rank_of: &[u64; 1024],
+    wanted: u64,
+    limit: u64,
+    best: usize,
+    y: usize,
+) -> usize {
+    if at(words_of, y) < wanted {
+        return best;
+    }
+    if limit < at(gap_of, y) {
+        return best;
+    }
+    if best == 0 {
+        return y;
+    }
+    if at(rank_of, y) < at(rank_of, best) {
+        y
+    } else {
+        best
+    }
+}
+
+// The best set of free slots that meets the demand; 0, which delivers nothing, for none.
+fn best_listed(
+    words_of: &[u64; 1024],
+    gap_of: &[u64; 1024],
+    rank_of: &[u64; 1024],
+    free: usize,
+    wanted: u64,
+    limit: u64,
+) -> usize {
+    let mut best = 0;
+    let mut y = free;
+    while 0 < y {
+        if inside(free, y) {
+            best = kept_listed(words_of, gap_of, rank_of, wanted, limit, best, y);
+        }
+        y -= 1;
+    }
+    best
+}
+
+// Bare selection from the tables of its wheel, of at most 10 slots.
+pub fn search_listed(
+    words_of: &[u64; 1024],
+    gap_of: &[u64; 1024],
+    rank_of: &[u64; 1024],
+    n: u64,
+    s: u64,
+    h: u64,
+    p: u64,
+    free: u64,
+    wanted: u64,
+    limit: u64,
+) -> Found {
+    let no = unasked(n, s, h, p, free, wanted, limit);
+    if no != 0 {
+        return refused(no);
+    }
+    if 10 < n || 1024 <= free {
+        return refused(99);
+    }
+    if !some_listed(words_of, index(free), wanted) {
+        return refused(13);
+    }
+    let best = best_listed(words_of, gap_of, rank_of, index(free), wanted, limit);
+    if best == 0 {
+        return refused(14);
+    }
+    Found {
+        no: 0,
+        slots: long(best),
+        count: size(long(best)),
+        words: at(words_of, best),
     }
 }
