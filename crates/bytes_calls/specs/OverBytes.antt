@@ -4,7 +4,7 @@ use mathlib.Core.Path.{_≡_, refl, sym, ap, subst, _∙_}
 use mathlib.Core.Bool.{Bool, true, false, cond}
 use mathlib.Core.List.{List}
 use mathlib.Core.Logic.{_⊎_, inl, inr}
-use Prim.Native.Nat.{ℕ, _+_, _-_, _*_, _^_, _≤_, _<_}
+use Prim.Native.Nat.{ℕ, _+_, _-_, _*_, _≤_, _<_}
 use native.Mathlib.Omega.{arith}
 use lib.ListN.{length, set}
 use Rattle.rules.specs.declared.Demand.{Demand}
@@ -17,7 +17,7 @@ use Rattle.rules.specs.declared.Cleared.{Cleared}
 use Rattle.rules.specs.declared.Cleared.the-variants as cleared
 use Rattle.rules.specs.declared.Reported.{Reported}
 use Rattle.rules.specs.Tells.{Tells}
-use Rattle.rules.specs.Sets.{Below, listOf}
+use Rattle.rules.specs.Sets.{Below}
 use Rattle.rules.specs.Paths.{Chip, allowed, freeSlots}
 use Rattle.rules.specs.Flows.{flow}
 use Rattle.rules.specs.Promises.{Grants, trimmed, openRecord, closedRecord, Opens, Closes}
@@ -28,7 +28,7 @@ use Rattle.agree.specs.declared.Checked.{Checked}
 use Rattle.agree.specs.Checks.{Agrees, Steps, Checks, checks-more}
 use Rattle.core.specs.declared.Opening.{Opening}
 use Rattle.core.specs.declared.Closing.{Closing}
-use Rattle.core.specs.Pieces.{DecidesPath, DecidesOpen, WritesOpen, OpensOne, DecidesFlow, DecidesClose, WritesClose, ClosesOne, ReportsOne}
+use Rattle.core.specs.Pieces.{DecidesPath, DecidesOpen, WritesOpen, OpensOne, DecidesClose, WritesClose, ClosesOne, ReportsOne}
 use Rattle.core.specs.Joined.{opens-joined, closes-joined}
 use Rattle.core.specs.ByValue.{RecordOf, opening-at, closing-at}
 use Rattle.bytes_list.specs.Layout.{countOf, decoded, listIn, Written}

@@ -11,7 +11,6 @@ use lib.Dec.{eqb}
 use borrow.Author.Tests.{eq-eqb, ne-eqb}
 use Rattle.rules.specs.declared.State.{State}
 use Rattle.rules.specs.declared.State.the-variants.{Closed, Open}
-use Rattle.rules.specs.declared.Record.{Record}
 use Rattle.rules.specs.Sets.{all, listOf}
 use Rattle.bytes_list.specs.Layout.{knownState, isZero, formed, asks, stateFrom, pathFrom, slotsFrom, recordFrom}
 

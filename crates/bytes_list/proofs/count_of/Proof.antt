@@ -1,7 +1,6 @@
 -- By the test.
 use borrow.Author.Tests.{eq-eqb, ne-eqb}
 use Rattle.bytes_list.specs.Layout.{countOf}
-use borrow.Author.Needs.{needs}
 use Rattle.bytes_list.proofs.count_of.Statement.{statement}
 use Rattle.bytes_list.proofs.count_of.Tie as tie
 
