@@ -28,11 +28,11 @@ unfolding sum
 ones-at-most f i zero = omega arith
 ones-at-most f i (suc m) = omega (arith, one-at-most (f i), ones-at-most f (suc i) m)
 
-size-at-most : (N x : ℕ) → size N x ≤ N
+pub size-at-most : (N x : ℕ) → size N x ≤ N
 unfolding size
 size-at-most N x = ones-at-most (chosen N x) 0 N
 
-slots-at-most : (w : Wheel) → ¬ (¬ Legal w) → w .n ≤ 64
+pub slots-at-most : (w : Wheel) → ¬ (¬ Legal w) → w .n ≤ 64
 slots-at-most w h = go (decLe (w .n) 64)
   where
     go : Dec (w .n ≤ 64) → w .n ≤ 64
