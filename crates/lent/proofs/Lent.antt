@@ -52,13 +52,13 @@ module _ {M : Type 1} (𝓤 : URA M) (H : Heap 𝓤) (A : Atoms 𝓤) where
       (monoR 𝓤 (mean 𝓤 H A k) (push 𝓤 H A j (del 𝓤 H A i Γ)))))
 
 module _ {M : Type 1} {𝓤 : URA M} {H : Heap 𝓤} {A : Atoms 𝓤} {K : Type 0} {W : Given 𝓤 H A} where
-  takes-out : K → {Γ : List (Item 𝓤)} {G : Goal 𝓤 H} (i : ℕ) (k : Item 𝓤) → nth 𝓤 H A i Γ ≡ k → Step K W (k ∷ del 𝓤 H A i Γ) G Γ G
+  pub takes-out : K → {Γ : List (Item 𝓤)} {G : Goal 𝓤 H} (i : ℕ) (k : Item 𝓤) → nth 𝓤 H A i Γ ≡ k → Step K W (k ∷ del 𝓤 H A i Γ) G Γ G
   takes-out t {Γ} i k e = step (λ s. record {
     prf = via 𝓤 (sep 𝓤 (mean 𝓤 H A k) (⋆ 𝓤 H A (del 𝓤 H A i Γ))) (subst (λ (j : Item 𝓤). ent 𝓤 (⋆ 𝓤 H A Γ) (sep 𝓤 (mean 𝓤 H A j) (⋆ 𝓤 H A (del 𝓤 H A i Γ)))) e (pull 𝓤 H A i Γ))
         (via 𝓤 (⋆ 𝓤 H A (k ∷ del 𝓤 H A i Γ)) (push 𝓤 H A k (del 𝓤 H A i Γ)) (s .prf));
   })
 
-  puts-back : K → (Γ : List (Item 𝓤)) {G : Goal 𝓤 H} (i : ℕ) (k : Item 𝓤) → Step K W (put 𝓤 H A i k Γ) G (k ∷ del 𝓤 H A i Γ) G
+  pub puts-back : K → (Γ : List (Item 𝓤)) {G : Goal 𝓤 H} (i : ℕ) (k : Item 𝓤) → Step K W (put 𝓤 H A i k Γ) G (k ∷ del 𝓤 H A i Γ) G
   puts-back t Γ i k = step (λ s. record {
     prf = via 𝓤 (sep 𝓤 (mean 𝓤 H A k) (⋆ 𝓤 H A (del 𝓤 H A i Γ))) (pop 𝓤 H A k (del 𝓤 H A i Γ)) (via 𝓤 (⋆ 𝓤 H A (put 𝓤 H A i k Γ)) (fill 𝓤 H A i k Γ) (s .prf));
   })
@@ -70,7 +70,7 @@ module _ {M : Type 1} {𝓤 : URA M} {H : Heap 𝓤} {A : Atoms 𝓤} {K : Type 
   })
 
   -- operands that are read with g ∗ h at entry i are read with g and h at the head
-  reads-at : {E : Env 𝓤 H} {xs : List Operand} {vs : List Val} (Γ : List (Item 𝓤)) (i : ℕ) → In 𝓤 H A i Γ → (g h : Item 𝓤) → Opds K W (put 𝓤 H A i (g ⊛ h) Γ) E xs vs → Opds K W (g ∷ h ∷ del 𝓤 H A i Γ) E xs vs
+  pub reads-at : {E : Env 𝓤 H} {xs : List Operand} {vs : List Val} (Γ : List (Item 𝓤)) (i : ℕ) → In 𝓤 H A i Γ → (g h : Item 𝓤) → Opds K W (put 𝓤 H A i (g ⊛ h) Γ) E xs vs → Opds K W (g ∷ h ∷ del 𝓤 H A i Γ) E xs vs
   reads-at Γ i within g h os = record {
     go = λ Kt s. via 𝓤 (⋆ 𝓤 H A (put 𝓤 H A i (g ⊛ h) Γ))
         (via 𝓤 (sep 𝓤 (mean 𝓤 H A g) (sep 𝓤 (mean 𝓤 H A h) (⋆ 𝓤 H A (del 𝓤 H A i Γ)))) (monoR 𝓤 (mean 𝓤 H A g) (pop 𝓤 H A h (del 𝓤 H A i Γ)))
