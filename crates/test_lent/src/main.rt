@@ -198,20 +198,41 @@ fn demand(words: u16, deadline: u16) -> Demand {
     }
 }
 
-fn run(table: &mut [u8]) {
+// A grant; the same flow again; and the last flow of the list.
+fn opening(table: &mut [u8]) -> [Record; 16] {
     let a = opens(table, empty(), 3, demand(4, 12));
     let b = opens(table, a, 3, demand(4, 12));
-    let c = opens(table, b, 16, demand(9, 12));
-    let d = opens(table, c, 17, demand(1, 12));
-    let e = opens(table, d, 1, demand(60, 12));
-    let f = closes(table, e, 2);
-    let g = closes(table, f, 3);
-    let h = closes(table, g, 3);
-    closes(table, h, 16);
-    let none = opens(table, empty(), 1, demand(4, 2));
-    let held = opens(table, none, 1, demand(4, 12));
+    opens(table, b, 16, demand(9, 12))
+}
+
+// A flow past the end of the list; and more words than there is room for.
+fn refusing(table: &mut [u8], list: [Record; 16]) -> [Record; 16] {
+    let a = opens(table, list, 17, demand(1, 12));
+    opens(table, a, 1, demand(60, 12))
+}
+
+// A flow that is not open; the two that are; and one of them again.
+fn closing(table: &mut [u8], list: [Record; 16]) {
+    let a = closes(table, list, 2);
+    let b = closes(table, a, 3);
+    let c = closes(table, b, 3);
+    closes(table, c, 16);
+}
+
+// A deadline that the path alone uses up; a grant; a list that does not know of it; and the one that
+// does.
+fn disagreeing(table: &mut [u8]) {
+    let a = opens(table, empty(), 1, demand(4, 2));
+    let b = opens(table, a, 1, demand(4, 12));
     closes(table, empty(), 1);
-    closes(table, held, 1);
+    closes(table, b, 1);
+}
+
+fn run(table: &mut [u8]) {
+    let a = opening(table);
+    let b = refusing(table, a);
+    closing(table, b);
+    disagreeing(table);
 }
 
 fn main() {
