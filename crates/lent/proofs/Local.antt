@@ -2,6 +2,7 @@
 --     records n        `[Record; n]` as a plain type (`Rows.antt`)
 --     Cell             the array's cell, in the local at l
 --     calls-local      the call: entry i is the first slice, a `&mut [T]`, lent on; entry k is the local's cell. Both are put back where they were
+--     shows-local-to   the same with both as `&`
 -- Assumes `Given`, and `FmC` of the table of calls.
 use mathlib.Core.Path.{_≡_, refl, sym, ap, subst, _∙_}
 use Prim.Native.Nat.{ℕ, suc}
@@ -21,7 +22,7 @@ use types.Kit.{Given, Item, ‵, raw, _⊛_, some, given, later, mean, nth, put,
 use types.Run.{Opds}
 use types.SemTy.{cells, Arr}
 use types.Share.{arr-parts}
-use types.Tokens.{lft-new, lft-end}
+use types.Tokens.{lft-new, lft-end, lent-back}
 use denote.RattleType.{RattleType, owns}
 use denote.Exit.{each-of}
 use denote.Laws.{Is, shows}
@@ -29,7 +30,7 @@ use denote.Memory.{mem, shares, lone, cellAt, partAt, partOf}
 use denote.Array.{Array, arrayVal, array-vals, array-tells, array-makes, array-lawful}
 use denote.ArrayMemory.{array-apart, array-whole}
 use denote.Slice.{sliceVal, Room, finally}
-use denote.Lend.{Held, lends-slice, slice-back}
+use denote.Lend.{Held, lends-slice, slice-back, lends-shr-slice}
 use denote.Index.{row, whole-in, whole-out}
 use denote.Signature.{typesAt}
 use denote.Steps.{only, owned as owned-by, heard, facts, nothing}
@@ -41,9 +42,9 @@ use Rattle.rules.specs.declared.Record.{Record}
 use Rattle.rules.proofs.Record as R
 use Rattle.rules.proofs.Record.Laws as R′
 use Rattle.lent.proofs.Rows.{Known, Rec, flow}
-use Rattle.lent.proofs.Callee.{Values, Good, spelled, slots, args, values, valss, round, flat-is, owned, BothLent, both-lent, both-lent-ended}
-use Rattle.lent.proofs.Loans.{Handle, slice-of, lent-for, ref-at, mut-own, Mut, Lent, Key, Loan, lends, comes-back}
-use Rattle.lent.proofs.Lent.{In, takes-out, puts-back, reads-at}
+use Rattle.lent.proofs.Callee.{Values, Good, spelled, slots, args, values, valss, round, flat-is, owned, BothLent, both-lent, both-lent-ended, BothShown, both-shown}
+use Rattle.lent.proofs.Loans.{Handle, slice-of, lent-for, ref-at, mut-own, shr-own, Mut, Shr, Lent, Key, Loan, lends, comes-back, View, seen}
+use Rattle.lent.proofs.Lent.{In, takes-out, puts-back, restores, reads-at, to-both, asked-both, asks-both, hears-both}
 
 module _ {M : Type 1} (𝓤 : URA M) (H : Heap 𝓤) (A : Atoms 𝓤) (W : Given 𝓤 H A) where
   abbrev vals : Record → List Val
@@ -85,6 +86,31 @@ module _ {M : Type 1} (𝓤 : URA M) (H : Heap 𝓤) (A : Atoms 𝓤) (W : Given
         use1 W (‵ (arr-parts (shares Rec) n .part fullShare xs l 0)) (array-apart 𝓤 H A W Rec fullShare tt n xs l 0) $ fsplit ! $ drop ! $ use1 W (‵ (cells (mem Rec) xs l 0)) (whole-in 𝓤 H A W Rec xs l 0) $
         use1 W (later (some (λ (δ : GName). ‵ (mut-own Rec (counted (length xs) ν δ) xs) ⊛ ‵ (flent (ν ∷ []) (Held Rec (length xs) l 0 δ))))) (lends-slice 𝓤 H A W Rec (named 0) (ν ∷ []) xs l 0 (subst (Room Rec) (sym len) room)) $ await ! tt $ pick ! (λ δ. split ! $ at-once ! $
         show ! (λ (δ′ : GName). sep 𝓤 (sem 𝓤 H A (mut-own Rec (counted (length xs) ν δ′) xs)) (sem 𝓤 H A (flent (ν ∷ []) (Held Rec (length xs) l 0 δ′)))) δ $ done !))
+
+    -- and as a `&[Record]`
+    abbrev pub kept-shown : ℕ → List Record → Fml
+    kept-shown ν xs = flent (ν ∷ []) (arr-parts (shares Rec) (length xs) .part fullShare xs l 0)
+
+    abbrev OutShown : ℕ → List Record → ℕ → Type 1
+    OutShown ν xs m = ent 𝓤 (sem 𝓤 H A (Cell xs)) (H .⇛ (ex 𝓤 (λ (δ : GName). sep 𝓤 (sem 𝓤 H A (shr-own Rec (counted m ν δ) xs)) (sem 𝓤 H A (kept-shown ν xs)))))
+
+    shows-local : (ν : ℕ) (xs : List Record) → Is (Array Rec n) xs (array-vals vals xs) → length xs ≡ n → Room Rec n → OutShown ν xs n
+    unfolding partOf
+    shows-local ν xs is len room = subst (OutShown ν xs) len (
+        qed W (‵ (Cell xs) ∷ []) ∵ updating ! $ use1 W (‵ (cellAt fullShare (Array Rec n .mir) (array-vals vals xs) l 0)) (W .laws .at-raw fullShare (tyArray (lone (Rec .mir)) n) l 0 (only (array-vals vals xs))) $
+        owned-by ! (Array Rec n) (Is (Array Rec n)) (array-makes 𝓤 H A W Rec (flow 𝓤 H A W .makes) n) xs _ is $ move ! (1 ∷ 0 ∷ []) $ fjoin ! $ fpack ! (List Val) (λ us. fsep (cellAt fullShare (Array Rec n .mir) us l 0) (Array Rec n .own xs us)) (array-vals vals xs) $
+        use1 W (‵ (arr-parts (shares Rec) n .part fullShare xs l 0)) (array-apart 𝓤 H A W Rec fullShare tt n xs l 0) $ fsplit ! $ drop ! $ feqI ! ℕ (length xs) (length xs) refl $ fjoin ! $
+        use1 W (later (some (λ (δ : GName). ‵ (shr-own Rec (counted (length xs) ν δ) xs) ⊛ ‵ (kept-shown ν xs)))) (lends-shr-slice 𝓤 H A W Rec (named 0) (ν ∷ []) fullShare xs l 0 (subst (Room Rec) (sym len) room)) $ await ! tt $ pick ! (λ δ. split ! $ at-once ! $
+        show ! (λ (δ′ : GName). sep 𝓤 (sem 𝓤 H A (shr-own Rec (counted (length xs) ν δ′) xs)) (sem 𝓤 H A (kept-shown ν xs))) δ $ done !))
+
+    shown-back : (ν : ℕ) (xs : List Record) → length xs ≡ n → ent 𝓤 (sep 𝓤 (A .dead (ν ∷ [])) (sem 𝓤 H A (kept-shown ν xs))) (H .⇛ (sem 𝓤 H A (Cell xs)))
+    unfolding partOf
+    shown-back ν xs len =
+        qed W (‵ (fdead (ν ∷ [])) ∷ ‵ (kept-shown ν xs) ∷ []) ∵ updating ! $ lent-back ! tt $ fsplit ! $ drop ! $ feqI ! ℕ (length xs) n len $ fjoin ! $
+        use1 W (‵ (partAt (Array Rec n) fullShare xs l 0)) (array-whole 𝓤 H A W Rec fullShare n xs l 0) $
+        fpick ! (λ vs. fsplit ! $ move ! (1 ∷ []) $ facts ! (Array Rec n) (Is (Array Rec n)) (shows 𝓤 H A (Array Rec n)) xs vs (λ is.
+        rewrite ! 0 (λ (us : List Val). ‵ (cellAt fullShare (Array Rec n .mir) us l 0)) (array-tells Rec vals (flow 𝓤 H A W .tells) n xs vs is) refl $
+        use1 W (‵ (Cell xs)) (W .laws .raw-at fullShare (tyArray (lone (Rec .mir)) n) l 0 (only (array-vals vals xs))) $ at-once ! $ done !))
 
     local-back : (ν : ℕ) (δ : GName) (zs : List Record) → ent 𝓤 (sep 𝓤 (A .dead (ν ∷ [])) (sep 𝓤 (sem 𝓤 H A (kept ν δ)) (sem 𝓤 H A (finally Rec δ zs)))) (H .⇛ (guard 𝓤 (Is (Array Rec n) zs (array-vals vals zs)) (sem 𝓤 H A (Cell zs))))
     unfolding partOf
@@ -156,3 +182,28 @@ module _ {M : Type 1} {𝓤 : URA M} {H : Heap 𝓤} {A : Atoms 𝓤} {K : Type 
       use3 W (later (given (Is (Array Rec n) zs (array-vals (vals 𝓤 H A W) zs)) (‵ (Cell 𝓤 H A W n l zs)))) (local-back 𝓤 H A W n l ν δ zs) $ await t tt $ learn t (λ zs-are.
       puts-back t (put 𝓤 H A i (Mut R h ys′) (put 𝓤 H A k (‵ (kept 𝓤 H A W n l ν δ)) Γ)) k (‵ (Cell 𝓤 H A W n l zs)) $
       subst (λ (v : Val). Seq K W (put 𝓤 H A k (‵ (Cell 𝓤 H A W n l zs)) (put 𝓤 H A i (Mut R h ys′) (put 𝓤 H A k (‵ (kept 𝓤 H A W n l ν δ)) Γ))) (lands C Λ E d v rest p)) (sym told) (cont r ys′ zs (‵ (kept 𝓤 H A W n l ν δ)) good-r said (same ∙ len) zs-are)))))))
+
+  pub shows-local-to : K → FmC 𝓤 H (W .laws) C → (R : RattleType) (c : BothShown 𝓤 H A R Rec) → Triple 𝓤 (C f) (both-shown 𝓤 H A R Rec c) → (h : Handle) (ys : List (R .Denot)) (entry : Item 𝓤) → View 𝓤 H A entry R h ys
+      → (n l : ℕ) (xs : List Record) → Is (Array Rec n) xs (array-vals (vals 𝓤 H A W) xs) → length xs ≡ n → Room Rec n → (a : Values (c .takes)) → Good (c .takes) a → ent 𝓤 (emp 𝓤) (c .needs ys xs a)
+      → (i k : ℕ) → nth 𝓤 H A k Γ ≡ ‵ (Cell 𝓤 H A W n l xs) → ((g : Item 𝓤) → In 𝓤 H A i (put 𝓤 H A k g Γ)) → ((g : Item 𝓤) → nth 𝓤 H A i (put 𝓤 H A k g Γ) ≡ entry) → ((g : Item 𝓤) → nth 𝓤 H A k (put 𝓤 H A k g Γ) ≡ g)
+      → ((g g′ : Item 𝓤) → Opds K W (put 𝓤 H A i g (put 𝓤 H A k g′ Γ)) E os (slice-of h ∷ sliceVal (l, 0) n ∷ spelled (c .takes) a))
+      → ((r : c .gives .row .Denot) (g : Item 𝓤) → Is (c .gives .row) r (c .gives .val r ∷ []) → c .holds ys xs a r → Seq K W (put 𝓤 H A k (‵ (Cell 𝓤 H A W n l xs)) (put 𝓤 H A k g Γ)) (lands C Λ E d (c .gives .val r) rest p))
+      → Seq K W Γ (runs C Λ E (seq (call f os d) rest) p)
+  shows-local-to t fm R c known h ys entry view n l xs is many room a good needs i k at-k within at-i back reads cont =
+      takes-out t k (‵ (Cell 𝓤 H A W n l xs)) at-k $ lft-new t tt (λ ν. move t (1 ∷ []) $
+      use1 W (later (some (λ (δ : GName). ‵ (shr-own Rec (local 𝓤 H A W n l ν δ) xs) ⊛ ‵ (kept-shown 𝓤 H A W n l ν xs)))) (shows-local 𝓤 H A W n l ν xs is many room) $ await t tt $ pick t (λ (δ : GName). split t $
+      move t (0 ∷ 2 ∷ []) $ join t $ move t (1 ∷ 0 ∷ []) $ puts-back t (Shr Rec (local 𝓤 H A W n l ν δ) xs ∷ Γ) (suc k) (‵ (kept-shown 𝓤 H A W n l ν xs)) $
+      takes-out t (suc i) entry (at-i (‵ (kept-shown 𝓤 H A W n l ν xs))) $
+      use1 W (later (some (λ (key : view .At). Shr R (seen view key) ys ⊛ view .kept key))) (view .out) $ await t tt $ pick t (λ (key : view .At). split t $ move t (0 ∷ 2 ∷ []) $
+      use2 W (raw (asked-both 𝓤 H A W R Rec c (seen view key) (local 𝓤 H A W n l ν δ) ys xs a)) (asks-both 𝓤 H A W R Rec c (seen view key) (local 𝓤 H A W n l ν δ) ys xs a good needs) $
+      calls-at t fm (both-shown 𝓤 H A R Rec c) known (to-both 𝓤 H A W R Rec c (seen view key) (local 𝓤 H A W n l ν δ) ys xs a)
+      (reads-at (put 𝓤 H A k (‵ (kept-shown 𝓤 H A W n l ν xs)) Γ) i (within (‵ (kept-shown 𝓤 H A W n l ν xs))) (raw (asked-both 𝓤 H A W R Rec c (seen view key) (local 𝓤 H A W n l ν δ) ys xs a)) (view .kept key)
+      (subst (λ (us : List Val). Opds K W (put 𝓤 H A i (raw (asked-both 𝓤 H A W R Rec c (seen view key) (local 𝓤 H A W n l ν δ) ys xs a) ⊛ view .kept key) (put 𝓤 H A k (‵ (kept-shown 𝓤 H A W n l ν xs)) Γ)) E os (slice-of h ∷ sliceVal (l, 0) n ∷ us)) (sym (flat-is 2 (c .takes) (view .lft key, (ν ∷ [], tt)) a)) (reads _ _))) (λ u.
+      hears-both 𝓤 H A W R Rec c (seen view key) (local 𝓤 H A W n l ν δ) ys xs a t tt u (λ r good-r said told.
+      -- [the first token; the second token; what is kept of the first slice]
+      move t (0 ∷ 2 ∷ []) $ use2 W (later entry) (view .back key) $ await t tt $
+      restores t (‵ (flft (ν ∷ []) fullShare) ∷ put 𝓤 H A k (‵ (kept-shown 𝓤 H A W n l ν xs)) Γ) (suc i) entry (at-i (‵ (kept-shown 𝓤 H A W n l ν xs))) $ lft-end t tt $
+      takes-out t (suc k) (‵ (kept-shown 𝓤 H A W n l ν xs)) (back (‵ (kept-shown 𝓤 H A W n l ν xs))) $ move t (1 ∷ 0 ∷ []) $
+      use2 W (later (‵ (Cell 𝓤 H A W n l xs))) (shown-back 𝓤 H A W n l ν xs many) $ await t tt $
+      puts-back t (put 𝓤 H A k (‵ (kept-shown 𝓤 H A W n l ν xs)) Γ) k (‵ (Cell 𝓤 H A W n l xs)) $
+      subst (λ (v : Val). Seq K W (put 𝓤 H A k (‵ (Cell 𝓤 H A W n l xs)) (put 𝓤 H A k (‵ (kept-shown 𝓤 H A W n l ν xs)) Γ)) (lands C Λ E d v rest p)) (sym told) (cont r (‵ (kept-shown 𝓤 H A W n l ν xs)) good-r said))))))
