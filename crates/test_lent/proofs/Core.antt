@@ -10,11 +10,11 @@ use ghost.Atoms.{Atoms}
 use types.Kit.{Given}
 use denote.Builtin.{u8}
 use Rattle.rules.specs.Paths.{chipOf}
-use Rattle.rules.specs.Promises.{Opens, Closes}
+use Rattle.rules.specs.Promises.{Opens, Closes, Reports}
 use Rattle.lent.proofs.Rows.{Known, struct, word, path, wheel, demand}
-use Rattle.lent.proofs.Callee.{Lending, Plainly}
+use Rattle.lent.proofs.Callee.{Lending, Shown, Plainly}
 use Rattle.lent.proofs.Local.{records}
-use Rattle.jellyspire.proofs.Core.{opened, cleared}
+use Rattle.jellyspire.proofs.Core.{opened, cleared, reported}
 use Rattle.test_lent.proofs.OpenedList as O
 use Rattle.test_lent.proofs.OpenedList.Laws as O′
 use Rattle.test_lent.proofs.ClearedList as C
@@ -57,4 +57,12 @@ module _ {M : Type 1} (𝓤 : URA M) (H : Heap 𝓤) (A : Atoms 𝓤) (W : Given
     gives = clearedList;
     needs = λ t a. emp 𝓤;
     holds = λ t a r t′. Closes (chipOf (a .1 .0) t) t (length (a .0)) (a .0) (a .1 .1 .0) t′ (r .list) (r .answer);
+  }
+
+  abbrev pub Report : Shown 𝓤 H A u8
+  Report = record {
+    takes = records 𝓤 H A W 16 ∷ wheel 𝓤 H A W ∷ [];
+    gives = reported 𝓤 H A W;
+    needs = λ t a. emp 𝓤;
+    holds = λ t a r. Reports (chipOf (a .1 .0) t) t (length (a .0)) (a .0) r;
   }

@@ -1,15 +1,16 @@
-// Opens and closes flows through the lent forms of the library, and prints every answer with what the
-// table holds afterwards. A program has its list by value: sixteen records, lent whole for each call.
+// Opens and closes flows through the lent forms of the library, and prints every answer with the
+// report afterwards. A program has its list by value: sixteen records, lent whole for each call.
 ghost use mathlib.Core.Path.{_≡_};
 ghost use lib.ListN.{length};
 ghost use Rattle.rules.specs.Paths.{chipOf};
-ghost use Rattle.rules.specs.Promises.{Opens, Closes};
+ghost use Rattle.rules.specs.Promises.{Opens, Closes, Reports};
 use libc::STDOUT_FILENO;
 use rules::Cleared;
 use rules::Demand;
 use rules::Opened;
 use rules::Record;
 use rules::Refusal;
+use rules::Reported;
 use rules::Wheel;
 use rules::Words;
 
@@ -61,6 +62,13 @@ fn close(table: &mut [u8], list: [Record; 16], w: Wheel, flow: usize) -> Cleared
     let mut l = list;
     let answer = jellyspire::close(table, &mut l, w, flow);
     cleared_list(answer, l)
+}
+
+// Reports free and held cells, with the list by value.
+fn report(table: &[u8], list: [Record; 16], w: Wheel) -> Reported
+    ensures { λ r. ⌜ Reports (chipOf w (now (table .entry))) (now (table .entry)) (length list) list r ⌝ }
+{
+    jellyspire::report(table, &list, w)
 }
 
 // Prints text.
@@ -159,11 +167,23 @@ fn path() -> [u16; 16] {
     p
 }
 
-// Prints how many cells are used.
-fn say_used(table: &[u8]) {
-    text(b"used ");
-    number(long(table::count_used(table)));
-    text(b"\n");
+fn say_reported(a: Reported) {
+    match a {
+        Reported::Counted(c) => {
+            text(b"free ");
+            number(long(c.free));
+            text(b", held ");
+            number(long(c.held));
+            text(b"\n");
+        }
+        Reported::Refused(q) => refused(q),
+    }
+}
+
+// Prints the report.
+fn say_report(table: &[u8], list: [Record; 16]) {
+    let a = report(table, list, wheel());
+    say_reported(a);
 }
 
 // Opens a flow with the demand, and prints.
@@ -174,8 +194,9 @@ fn opens(table: &mut [u8], list: [Record; 16], flow: usize, demand: Demand) -> [
     let r = open(table, list, wheel(), flow, path(), 2, demand);
     let a = r.answer;
     say_opened(a);
-    say_used(table);
-    r.list
+    let after = r.list;
+    say_report(table, after);
+    after
 }
 
 // Closes a flow, and prints.
@@ -186,8 +207,9 @@ fn closes(table: &mut [u8], list: [Record; 16], flow: usize) -> [Record; 16] {
     let r = close(table, list, wheel(), flow);
     let a = r.answer;
     say_cleared(a);
-    say_used(table);
-    r.list
+    let after = r.list;
+    say_report(table, after);
+    after
 }
 
 // What flows ask for.
