@@ -52,25 +52,25 @@ module _ {M : Type 1} (𝓤 : URA M) (H : Heap 𝓤) (A : Atoms 𝓤) where
       (monoR 𝓤 (mean 𝓤 H A k) (push 𝓤 H A j (del 𝓤 H A i Γ)))))
 
 module _ {M : Type 1} {𝓤 : URA M} {H : Heap 𝓤} {A : Atoms 𝓤} {K : Type 0} {W : Given 𝓤 H A} where
-  takes-out : K → {Γ : List (Item 𝓤)} {G : Goal 𝓤 H} (i : ℕ) (k : Item 𝓤) → nth 𝓤 H A i Γ ≡ k → Step K W (k ∷ del 𝓤 H A i Γ) G Γ G
+  pub takes-out : K → {Γ : List (Item 𝓤)} {G : Goal 𝓤 H} (i : ℕ) (k : Item 𝓤) → nth 𝓤 H A i Γ ≡ k → Step K W (k ∷ del 𝓤 H A i Γ) G Γ G
   takes-out t {Γ} i k e = step (λ s. record {
     prf = via 𝓤 (sep 𝓤 (mean 𝓤 H A k) (⋆ 𝓤 H A (del 𝓤 H A i Γ))) (subst (λ (j : Item 𝓤). ent 𝓤 (⋆ 𝓤 H A Γ) (sep 𝓤 (mean 𝓤 H A j) (⋆ 𝓤 H A (del 𝓤 H A i Γ)))) e (pull 𝓤 H A i Γ))
         (via 𝓤 (⋆ 𝓤 H A (k ∷ del 𝓤 H A i Γ)) (push 𝓤 H A k (del 𝓤 H A i Γ)) (s .prf));
   })
 
-  puts-back : K → (Γ : List (Item 𝓤)) {G : Goal 𝓤 H} (i : ℕ) (k : Item 𝓤) → Step K W (put 𝓤 H A i k Γ) G (k ∷ del 𝓤 H A i Γ) G
+  pub puts-back : K → (Γ : List (Item 𝓤)) {G : Goal 𝓤 H} (i : ℕ) (k : Item 𝓤) → Step K W (put 𝓤 H A i k Γ) G (k ∷ del 𝓤 H A i Γ) G
   puts-back t Γ i k = step (λ s. record {
     prf = via 𝓤 (sep 𝓤 (mean 𝓤 H A k) (⋆ 𝓤 H A (del 𝓤 H A i Γ))) (pop 𝓤 H A k (del 𝓤 H A i Γ)) (via 𝓤 (⋆ 𝓤 H A (put 𝓤 H A i k Γ)) (fill 𝓤 H A i k Γ) (s .prf));
   })
 
-  restores : K → (Γ : List (Item 𝓤)) {G : Goal 𝓤 H} (i : ℕ) (k : Item 𝓤) → nth 𝓤 H A i Γ ≡ k → Step K W Γ G (k ∷ del 𝓤 H A i Γ) G
+  pub restores : K → (Γ : List (Item 𝓤)) {G : Goal 𝓤 H} (i : ℕ) (k : Item 𝓤) → nth 𝓤 H A i Γ ≡ k → Step K W Γ G (k ∷ del 𝓤 H A i Γ) G
   restores t Γ i k e = step (λ s. record {
     prf = via 𝓤 (sep 𝓤 (mean 𝓤 H A k) (⋆ 𝓤 H A (del 𝓤 H A i Γ))) (pop 𝓤 H A k (del 𝓤 H A i Γ))
         (via 𝓤 (⋆ 𝓤 H A Γ) (subst (λ (j : Item 𝓤). ent 𝓤 (sep 𝓤 (mean 𝓤 H A j) (⋆ 𝓤 H A (del 𝓤 H A i Γ))) (⋆ 𝓤 H A Γ)) e (unpull 𝓤 H A i Γ)) (s .prf));
   })
 
   -- operands that are read with g ∗ h at entry i are read with g and h at the head
-  reads-at : {E : Env 𝓤 H} {xs : List Operand} {vs : List Val} (Γ : List (Item 𝓤)) (i : ℕ) → In 𝓤 H A i Γ → (g h : Item 𝓤) → Opds K W (put 𝓤 H A i (g ⊛ h) Γ) E xs vs → Opds K W (g ∷ h ∷ del 𝓤 H A i Γ) E xs vs
+  pub reads-at : {E : Env 𝓤 H} {xs : List Operand} {vs : List Val} (Γ : List (Item 𝓤)) (i : ℕ) → In 𝓤 H A i Γ → (g h : Item 𝓤) → Opds K W (put 𝓤 H A i (g ⊛ h) Γ) E xs vs → Opds K W (g ∷ h ∷ del 𝓤 H A i Γ) E xs vs
   reads-at Γ i within g h os = record {
     go = λ Kt s. via 𝓤 (⋆ 𝓤 H A (put 𝓤 H A i (g ⊛ h) Γ))
         (via 𝓤 (sep 𝓤 (mean 𝓤 H A g) (sep 𝓤 (mean 𝓤 H A h) (⋆ 𝓤 H A (del 𝓤 H A i Γ)))) (monoR 𝓤 (mean 𝓤 H A g) (pop 𝓤 H A h (del 𝓤 H A i Γ)))
@@ -164,13 +164,13 @@ module _ {M : Type 1} (𝓤 : URA M) (H : Heap 𝓤) (A : Atoms 𝓤) (W : Given
 
 -- ---- two of them
 module _ {M : Type 1} (𝓤 : URA M) (H : Heap 𝓤) (A : Atoms 𝓤) (W : Given 𝓤 H A) (R S : RattleType) (c : BothShown 𝓤 H A R S) (h h′ : Handle) (ys : List (R .Denot)) (zs : List (S .Denot)) (a : Values (c .takes)) where
-  abbrev to-both : both-shown 𝓤 H A R S c .Ghost
+  abbrev pub to-both : both-shown 𝓤 H A R S c .Ghost
   to-both = (((h .lft, (h′ .lft, tt)), (h .share, (h′ .share, tt)), tt, (ref-at R h ys, (ref-at S h′ zs, args 2 (c .takes) (h .lft, (h′ .lft, tt)) a)), (slice-of h ∷ [], (slice-of h′ ∷ [], valss 2 (c .takes) (h .lft, (h′ .lft, tt)) a))), tt)
 
-  abbrev asked-both : SProp 𝓤
+  abbrev pub asked-both : SProp 𝓤
   asked-both = both-shown 𝓤 H A R S c .pre to-both
 
-  asks-both : Good (c .takes) a → ent 𝓤 (emp 𝓤) (c .needs ys zs a) → ent 𝓤 (sep 𝓤 (mean 𝓤 H A (Shr R h ys)) (mean 𝓤 H A (Shr S h′ zs))) asked-both
+  pub asks-both : Good (c .takes) a → ent 𝓤 (emp 𝓤) (c .needs ys zs a) → ent 𝓤 (sep 𝓤 (mean 𝓤 H A (Shr R h ys)) (mean 𝓤 H A (Shr S h′ zs))) asked-both
   asks-both good needs =
       qed W (Shr R h ys ∷ Shr S h′ zs ∷ []) ∵ split ! $ move ! (2 ∷ []) $ split ! $
       -- [the second slice; its token; the first; its token]
@@ -179,7 +179,7 @@ module _ {M : Type 1} (𝓤 : URA M) (H : Heap 𝓤) (A : Atoms 𝓤) (W : Given
       use0 W (raw (c .needs ys zs (values 2 (c .takes) (h .lft, (h′ .lft, tt)) (args 2 (c .takes) (h .lft, (h′ .lft, tt)) a)))) (subst (λ (x : Values (c .takes)). ent 𝓤 (emp 𝓤) (c .needs ys zs x)) (sym (round 2 (c .takes) (h .lft, (h′ .lft, tt)) a)) needs) $
       move ! (1 ∷ 0 ∷ []) $ done !
 
-  hears-both : {K : Type 0} {Γ : List (Item 𝓤)} {G : Goal 𝓤 H} → K → Soaks G → (u : Val)
+  pub hears-both : {K : Type 0} {Γ : List (Item 𝓤)} {G : Goal 𝓤 H} → K → Soaks G → (u : Val)
       → ((r : c .gives .row .Denot) → Is (c .gives .row) r (c .gives .val r ∷ []) → c .holds ys zs a r → u ≡ c .gives .val r → Seq K W (‵ (flft (h .lft) (h .share)) ∷ ‵ (flft (h′ .lft) (h′ .share)) ∷ Γ) G)
       → Seq K W (raw (both-shown 𝓤 H A R S c .post to-both u) ∷ Γ) G
   hears-both t soaks u k =
