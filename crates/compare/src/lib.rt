@@ -85,23 +85,7 @@ pub fn same_list(a: [Record; 64], b: [Record; 64]) -> bool {
 
 // The number of a refusal in document 01.
 pub fn number(q: Refusal) -> u64 {
-    match q {
-        Refusal::BadWheel => 1,
-        Refusal::BadTable => 2,
-        Refusal::BadList => 3,
-        Refusal::Disagree => 4,
-        Refusal::PathLength => 5,
-        Refusal::NoChannel => 6,
-        Refusal::ChannelTwice => 7,
-        Refusal::NoFlow => 8,
-        Refusal::AlreadyOpen => 9,
-        Refusal::NotOpen => 10,
-        Refusal::NoWords => 11,
-        Refusal::NoTime => 12,
-        Refusal::TooMuch => 13,
-        Refusal::TooFar => 14,
-        Refusal::SlotBeyond => 15,
-    }
+    numbers::number(q) as u64
 }
 
 // The number of an opening's no; 0 for a grant.
