@@ -1,3 +1,4 @@
 pub mod Selection
 pub mod Cases
 pub mod Calls
+pub mod Unique
