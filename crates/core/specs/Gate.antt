@@ -11,17 +11,16 @@ use Rattle.rules.specs.declared.Record.{Record}
 use Rattle.rules.specs.declared.Grant.{Grant}
 use Rattle.rules.specs.declared.Opened.{Opened}
 use Rattle.rules.specs.declared.Opened.the-variants as opened
-use Rattle.rules.specs.declared.Refusal.{Refusal}
 use Rattle.rules.specs.declared.Cleared.{Cleared}
 use Rattle.rules.specs.declared.Cleared.the-variants as cleared
-use Rattle.rules.specs.Paths.{Chip, allowed, freeSlots, Stamped}
+use Rattle.rules.specs.Paths.{Chip, allowed, freeSlots}
 use Rattle.rules.specs.Flows.{claiming}
 use Rattle.rules.specs.Numbers.{number, Line, Refuses, Passes}
 use Rattle.rules.specs.Promises.{Grants, closedRecord}
 use Rattle.laws.specs.Logic.{not-both}
 use Rattle.ledger.specs.Calls.{Seen}
 use Rattle.agree.specs.Checks.{Ready}
-use Rattle.core.specs.Pieces.{checkedLines, pathLines, flowLines, DecidesPath, DecidesFlow, DecidesOpen, DecidesClose, WritesClose, ClosesOne}
+use Rattle.core.specs.Pieces.{MarksIf, isCleared, checkedLines, pathLines, flowLines, DecidesPath, DecidesFlow, DecidesOpen, DecidesClose, WritesClose, ClosesOne}
 
 -- a flow of the list is not refused by 8
 pub listed-flow : {f n : ℕ} → 1 ≤ f → f ≤ n → ¬ ((f ≡ 0) ⊎ (n < f))
@@ -101,17 +100,15 @@ module _ (chip : Chip) (t : List ℕ) (n : ℕ) where
 
 -- ---- what is written after the decision
 
-module _ (chip : Chip) (t : List ℕ) (n : ℕ) (agreed : Bool) (r : Record) (f : ℕ) (a : Cleared) (decided : DecidesClose chip t n agreed r f a) where
-  pub close-refused : (q : Refusal) (rec : Record) (t′ : List ℕ) → a ≡ cleared.Refused q → t′ ≡ t
-      → ClosesOne chip t n agreed r f t′ (record { answer = a; go = false; at = 0; new = rec })
-  unfolding WritesClose
-  close-refused q rec t′ e same = record { decides = decided; writes = rw e (refl, same) }
+module _ (chip : Chip) (t : List ℕ) (n : ℕ) (agreed : Bool) (r : Record) (f : ℕ) where
+  pub close-known : (a : Cleared) → DecidesClose chip t n agreed r f a → isCleared a ≡ true → Ready chip t n × (agreed ≡ true)
+  unfolding DecidesClose
+  close-known (cleared.Cells k) p e = (p .0, p .1)
+  close-known (cleared.Refused q) p e = absurd (not-both e refl)
 
-  pub close-known : (k : ℕ) → a ≡ cleared.Cells k → Ready chip t n × (agreed ≡ true) × (1 ≤ f)
-  unfolding DecidesClose DecidesFlow
-  close-known k e = let p = rw e at decided in (p .0, p .1, p .2 .0)
-
-  pub close-granted : (k : ℕ) (rec : Record) (t′ : List ℕ) → a ≡ cleared.Cells k → rec ≡ closedRecord → Stamped chip (r .path) (r .len) (r .slots) 0 t t′
-      → ClosesOne chip t n agreed r f t′ (record { answer = a; go = true; at = f - 1; new = rec })
+  pub close-written : (a : Cleared) → DecidesClose chip t n agreed r f a → (go : Bool) → go ≡ isCleared a
+      → (t′ : List ℕ) → MarksIf chip (r .path) (r .len) go (r .slots) 0 t t′ → (at : ℕ) → at ≡ f - 1 → (rec : Record) → rec ≡ closedRecord
+      → ClosesOne chip t n agreed r f t′ (record { answer = a; go = go; at = at; new = rec })
   unfolding WritesClose
-  close-granted k rec t′ e blank stamped = record { decides = decided; writes = rw e (refl, refl, blank, stamped) }
+  close-written (cleared.Cells k) p go eg t′ marks at ea rec er = record { decides = p; writes = (eg, ea, er, marks .marked eg) }
+  close-written (cleared.Refused q) p go eg t′ marks at ea rec er = record { decides = p; writes = (eg, marks .kept eg) }

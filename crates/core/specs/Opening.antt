@@ -1,7 +1,7 @@
 -- An opening: what bare selection answers among the free slots of the path is what is decided on the opening, and what is
 -- written after the decision.
-use mathlib.Core.Path.{_≡_, refl, subst}
-use mathlib.Core.Bool.{Bool, true, false}
+use mathlib.Core.Path.{_≡_, refl}
+use mathlib.Core.Bool.{Bool, true}
 use mathlib.Core.List.{List, [], _∷_}
 use mathlib.Core.Logic.{_⊎_, inl, inr}
 use Prim.Native.Nat.{ℕ, _-_, _≤_, _<_}
@@ -10,15 +10,13 @@ use Rattle.rules.specs.declared.Wheel.{Wheel}
 use Rattle.rules.specs.declared.Demand.{Demand}
 use Rattle.rules.specs.declared.State.{State}
 use Rattle.rules.specs.declared.Record.{Record}
-use Rattle.rules.specs.declared.Grant.{Grant}
-use Rattle.rules.specs.declared.Refusal.{Refusal}
 use Rattle.rules.specs.declared.Selected.{Selected}
 use Rattle.rules.specs.declared.Selected.the-variants as selected
 use Rattle.rules.specs.declared.Opened.{Opened}
 use Rattle.rules.specs.declared.Opened.the-variants as opened
 use Rattle.rules.specs.Sets.{Below}
 use Rattle.rules.specs.Wheels.{Legal}
-use Rattle.rules.specs.Paths.{Chip, allowed, freeSlots, Stamped}
+use Rattle.rules.specs.Paths.{Chip, allowed, freeSlots}
 use Rattle.rules.specs.Flows.{claiming}
 use Rattle.rules.specs.Numbers.{number, line, Refuses}
 use Rattle.rules.specs.Orders.{NoneDelivers, NoneMeets, selectOrder}
@@ -28,7 +26,7 @@ use Rattle.ledger.specs.Claims.{free-below}
 use Rattle.ledger.specs.Calls.{Seen}
 use Rattle.agree.specs.Checks.{Ready}
 use Rattle.core.specs.Gate.{listed-flow}
-use Rattle.core.specs.Pieces.{openedBy, pathLines, DecidesPath, DecidesOpen, WritesOpen, OpensOne}
+use Rattle.core.specs.Pieces.{MarksIf, openedBy, isGranted, grantedSlots, pathLines, DecidesPath, DecidesOpen, WritesOpen, OpensOne}
 
 -- a path of 1 to 16 channels is not refused by 5
 pub long-path : {m : ℕ} → 1 ≤ m → m ≤ 16 → ¬ ((m ≡ 0) ⊎ (16 < m))
@@ -76,20 +74,18 @@ module _ (chip : Chip) (t : List ℕ) (n : ℕ) (s : State) (path : List ℕ) (m
 
 -- ---- what is written after the decision
 
-module _ (chip : Chip) (t : List ℕ) (n : ℕ) (agreed : Bool) (s : State) (path : List ℕ) (m f : ℕ) (d : Demand) (a : Opened)
-    (decided : DecidesOpen chip t n agreed s path m f d a) where
-  pub open-refused : (q : Refusal) (rec : Record) (t′ : List ℕ) → a ≡ opened.Refused q → t′ ≡ t
-      → OpensOne chip t n agreed s path m f d t′ (record { answer = a; go = false; at = 0; new = rec })
-  unfolding WritesOpen
-  open-refused q rec t′ e same = record { decides = decided; writes = rw e (refl, same) }
-
-  pub open-known : (g : Grant) → a ≡ opened.Granted g → Ready chip t n × Seen chip n s path m f d
+module _ (chip : Chip) (t : List ℕ) (n : ℕ) (agreed : Bool) (s : State) (path : List ℕ) (m f : ℕ) (d : Demand) where
+  pub open-known : (a : Opened) → DecidesOpen chip t n agreed s path m f d a → isGranted a ≡ true → Ready chip t n × Seen chip n s path m f d
   unfolding DecidesOpen DecidesPath
-  open-known g e = let p = rw e at decided in (p .0, p .2 .0)
+  open-known (opened.Granted g) p e = (p .0, p .2 .0)
+  open-known (opened.Refused q) p e = absurd (not-both e refl)
 
-  pub open-granted : (g : Grant) (rec : Record) (t′ : List ℕ) → a ≡ opened.Granted g → rec ≡ openRecord path m (g .slots) d
-      → Stamped chip path m (g .slots) f t t′
-      → OpensOne chip t n agreed s path m f d t′ (record { answer = opened.Granted g; go = true; at = f - 1; new = rec })
+  pub open-written : (a : Opened) → DecidesOpen chip t n agreed s path m f d a → (go : Bool) → go ≡ isGranted a → (x : ℕ) → x ≡ grantedSlots a
+      → (v : ℕ) → (f ≤ 64 → v ≡ f) → (t′ : List ℕ) → MarksIf chip path m go x v t t′ → (at : ℕ) → at ≡ f - 1
+      → (rec : Record) → rec ≡ openRecord path m x d → OpensOne chip t n agreed s path m f d t′ (record { answer = a; go = go; at = at; new = rec })
   unfolding WritesOpen
-  open-granted g rec t′ e new stamped =
-      record { decides = subst (DecidesOpen chip t n agreed s path m f d) e decided; writes = (refl, refl, new, stamped) }
+  open-written (opened.Granted g) p go eg x ex v ev t′ marks at ea rec er =
+      let (ready, seen) = open-known (opened.Granted g) p refl in
+      let number : v ≡ f = ev (omega (arith, seen .listed, ready .listed .most)) in
+      record { decides = p; writes = (eg, ea, rw (← ex) er, rw (← ex, ← number) (marks .marked eg)) }
+  open-written (opened.Refused q) p go eg x ex v ev t′ marks at ea rec er = record { decides = p; writes = (eg, marks .kept eg) }

@@ -34,6 +34,25 @@ abbrev pub openedBy : Selected → Opened
 openedBy (selected.Chosen g) = opened.Granted g
 openedBy (selected.Refused r) = opened.Refused r
 
+-- whether an opening is granted, and its slots; none where it is refused
+abbrev pub isGranted : Opened → Bool
+isGranted (opened.Granted g) = true
+isGranted (opened.Refused r) = false
+
+abbrev pub grantedSlots : Opened → ℕ
+grantedSlots (opened.Granted g) = g .slots
+grantedSlots (opened.Refused r) = 0
+
+-- whether a flow is closed
+abbrev pub isCleared : Cleared → Bool
+isCleared (cleared.Cells k) = true
+isCleared (cleared.Refused r) = false
+
+-- the cells that the slots x claim on the path hold v afterwards, if `go`; otherwise no byte is written
+pub record MarksIf (chip : Chip) (path : List ℕ) (m : ℕ) (go : Bool) (x v : ℕ) (t t′ : List ℕ) : Type 0 where
+  pub marked : go ≡ true → Stamped chip path m x v t t′
+  pub kept : go ≡ false → t′ ≡ t
+
 -- ---- behind the gate, where 1 to 4 are passed
 
 -- 5 to 14 of an opening, where `isOpen` is 9's condition

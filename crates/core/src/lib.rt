@@ -12,9 +12,10 @@ ghost use Rattle.rules.specs.Flows.{Own};
 ghost use Rattle.rules.specs.Orders.{Tabled};
 ghost use Rattle.rules.specs.Promises.{openRecord, closedRecord, Opens, Closes, Reports};
 ghost use Rattle.agree.specs.Checks.{Agrees};
+ghost use Rattle.table.specs.Rows.{Walkable};
 ghost use Rattle.flows.specs.Tests.{chipWith};
 ghost use Rattle.core.specs.ByValue.{RecordOf};
-ghost use Rattle.core.specs.Pieces.{Gates, openedBy, DecidesPath, DecidesOpen, OpensOne, DecidesFlow, DecidesClose, ClosesOne, ReportsOne};
+ghost use Rattle.core.specs.Pieces.{Gates, MarksIf, openedBy, isGranted, grantedSlots, isCleared, DecidesPath, DecidesOpen, OpensOne, DecidesFlow, DecidesClose, ClosesOne, ReportsOne};
 use rules::Cleared;
 use rules::Demand;
 use rules::Opened;
@@ -96,6 +97,16 @@ fn enter(table: &[u8], w: Wheel, n: usize, agreed: bool) -> Gate
         return Gate::Shut(Refusal::Disagree);
     }
     Gate::Through
+}
+
+// Writes v into the cells that the slots x claim on the path, if `go`.
+fn mark_if(table: &mut [u8], w: Wheel, path: [u16; 16], len: usize, go: bool, x: u64, v: u8)
+    requires { ⌜ (go ≡ true → Legal w × Walkable (chipOf w (now table)) (now table) path len) ⌝ }
+    ensures { λ _. ⌜ MarksIf (chipOf w (now (table .entry))) path len go x v (now (table .entry)) (now (table .exit)) ⌝ }
+{
+    if go {
+        table::mark(table, w, path, len, x, v);
+    }
 }
 
 // ---- opening
@@ -193,6 +204,33 @@ fn open_record(path: [u16; 16], len: usize, slots: u64, demand: Demand) -> Recor
     }
 }
 
+// Whether an opening is granted.
+fn granted(a: Opened) -> bool
+    ensures { λ r. ⌜ r ≡ isGranted a ⌝ }
+{
+    match a {
+        Opened::Granted(_) => true,
+        Opened::Refused(_) => false,
+    }
+}
+
+// The slots that an opening is granted; none where it is refused.
+fn slots_of(a: Opened) -> u64
+    ensures { λ r. ⌜ r ≡ grantedSlots a ⌝ }
+{
+    match a {
+        Opened::Granted(g) => g.slots,
+        Opened::Refused(_) => 0,
+    }
+}
+
+// What the cells of a flow hold: its number. No list has a flow above 64.
+fn cell_of(flow: usize) -> u8
+    ensures { λ r. ⌜ (flow ≤ 64 → r ≡ flow) ⌝ }
+{
+    if flow <= 64 { flow as u8 } else { 0 }
+}
+
 // Opens `flow`, whose state is s: decides, then writes the flow's number into its cells.
 pub fn open_one(
     table: &mut [u8],
@@ -207,24 +245,16 @@ pub fn open_one(
 ) -> Opening
     ensures { λ o. ⌜ OpensOne (chipOf w (now (table .entry))) (now (table .entry)) n agreed s path len flow demand (now (table .exit)) o ⌝ }
 {
-    let a = decide_open(table, w, n, agreed, s, flow, path, len, demand);
-    match a {
-        Opened::Refused(_) => Opening {
-            answer: a,
-            go: false,
-            at: 0,
-            new: closed_record(),
-        },
-        Opened::Granted(g) => {
-            let v = flow as u8;
-            table::mark(table, w, path, len, g.slots, v);
-            Opening {
-                answer: a,
-                go: true,
-                at: flow - 1,
-                new: open_record(path, len, g.slots, demand),
-            }
-        }
+    let answer = decide_open(table, w, n, agreed, s, flow, path, len, demand);
+    let opens = granted(answer);
+    let slots = slots_of(answer);
+    let v = cell_of(flow);
+    mark_if(table, w, path, len, opens, slots, v);
+    Opening {
+        answer,
+        go: opens,
+        at: less(flow, 1), // flow 1 has the first record
+        new: open_record(path, len, slots, demand),
     }
 }
 
@@ -260,6 +290,16 @@ fn decide_close(table: &[u8], w: Wheel, n: usize, agreed: bool, r: Record, flow:
     }
 }
 
+// Whether a flow is closed.
+fn cleared(a: Cleared) -> bool
+    ensures { λ r. ⌜ r ≡ isCleared a ⌝ }
+{
+    match a {
+        Cleared::Cells(_) => true,
+        Cleared::Refused(_) => false,
+    }
+}
+
 // Closes `flow`, whose record is r: decides, then clears its cells.
 pub fn close_one(
     table: &mut [u8],
@@ -272,26 +312,16 @@ pub fn close_one(
     requires { ⌜ (agreed ≡ true → Own (chipOf w (now table)) (r .state) r) ⌝ }
     ensures { λ o. ⌜ ClosesOne (chipOf w (now (table .entry))) (now (table .entry)) n agreed r flow (now (table .exit)) o ⌝ }
 {
-    let a = decide_close(table, w, n, agreed, r, flow);
-    let none = closed_record();
-    match a {
-        Cleared::Refused(_) => Closing {
-            answer: a,
-            go: false,
-            at: 0,
-            new: none,
-        },
-        Cleared::Cells(_) => {
-            let path = r.path;
-            let len = r.len;
-            table::mark(table, w, path, len, r.slots, 0);
-            Closing {
-                answer: a,
-                go: true,
-                at: flow - 1,
-                new: none,
-            }
-        }
+    let answer = decide_close(table, w, n, agreed, r, flow);
+    let closes = cleared(answer);
+    let path = r.path;
+    let len = r.len;
+    mark_if(table, w, path, len, closes, r.slots, 0);
+    Closing {
+        answer,
+        go: closes,
+        at: less(flow, 1),
+        new: closed_record(),
     }
 }
 
