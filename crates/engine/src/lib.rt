@@ -10,7 +10,7 @@ ghost use Rattle.rules.specs.Wheels.{Legal, words};
 ghost use Rattle.rules.specs.Promises.{Grants};
 ghost use Rattle.line.specs.Tables.{Sound};
 ghost use Rattle.line.specs.Bound.{Paid};
-ghost use Rattle.optimum.specs.Search.{Sofar, Short, Hopeless};
+ghost use Rattle.optimum.specs.Search.{Sofar, Short, Hopeless, Weighed};
 ghost use Rattle.optimum.specs.Answer.{Asked};
 use line::Task;
 use optimum::Found;
@@ -122,6 +122,47 @@ fn improves(k: usize, v: u16, best: Found) -> bool
     false
 }
 
+// Where to cap the tables at first: the fewest slots that may do are often, but for one or two, what
+// it takes.
+fn first_cap(least: usize, cap: usize) -> usize
+    ensures { λ r. ⌜ r ≤ cap ⌝ }
+{
+    if cap < 2 {
+        return cap;
+    }
+    if cap - 2 < least {
+        return cap;
+    }
+    least + 2
+}
+
+// Fills the tables at `start` as far as they are needed, and says the fewest slots, up to `cap`,
+// that are worth more than the words asked for; cap + 1 where there are none.
+fn weigh(
+    heads: &mut [u16],
+    tails: &mut [u16],
+    task: Task,
+    start: PathSlot,
+    least: usize,
+    cap: usize,
+) -> usize
+    requires { ⌜ Sound task ⌝ }
+    requires { do ⌜ (start .0 < task .wheel .n) × (cap < 64) × ((← ⟦heads.len()⟧) ≡ 4096) × ((← ⟦tails.len()⟧) ≡ 4096) ⌝ }
+    ensures { λ k. ⌜ Weighed task (start .0) cap (now (heads .exit)) (now (tails .exit)) k ⌝ }
+{
+    let near = first_cap(least, cap);
+    tables::fill(heads, tails, task, start, near);
+    let k = first_over(heads, near, task.words.0);
+    if k <= near {
+        return k;
+    }
+    if near == cap {
+        return k;
+    }
+    tables::fill(heads, tails, task, start, cap);
+    first_over(heads, cap, task.words.0)
+}
+
 // The best of the starts so far with one more start taken into account.
 fn try_start(
     heads: &mut [u16],
@@ -144,8 +185,7 @@ fn try_start(
         return best;
     }
     let cap = tables::smaller(best.count, task.wheel.n - 1);
-    tables::fill(heads, tails, task, start, cap);
-    let k = first_over(heads, cap, task.words.0);
+    let k = weigh(heads, tails, task, start, least, cap);
     if cap < k {
         return best;
     }

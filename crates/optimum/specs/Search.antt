@@ -12,7 +12,7 @@ use Rattle.line.specs.declared.Task.{Task}
 use Rattle.line.specs.Values.{N, P}
 use Rattle.line.specs.Packets.{opens, head, head-shut, head-zero}
 use Rattle.line.specs.Tables.{Sound, FreeRun}
-use Rattle.line.specs.Rows.{Solved}
+use Rattle.line.specs.Rows.{Solved, solved-fewer}
 use Rattle.line.specs.Rebuild.{greedySet}
 use Rattle.line.specs.Bound.{Paid, paid-more, paid-any, paid-run}
 use Rattle.optimum.specs.declared.Found.{Found}
@@ -61,6 +61,25 @@ short-run t good f k z = record { less = λ j h v p. z .less j h v (paid-more t 
 pub record Hopeless (t : Task) (f : ℕ) (b : Found) : Type 0 where
   pub short : Short t f (b .count)
   pub top : b .count < N t → (v : ℕ) → Paid t f (b .count) v → v < b .value
+
+-- k is the least number of slots, up to `cap`, that is worth enough at start u, or cap + 1 if none is; so far the tables are right
+pub record Weighed (t : Task) (u cap : ℕ) (hd tl : List ℕ) (k : ℕ) : Type 0 where
+  pub range : k ≤ cap + 1
+  pub low : (j : ℕ) → j < k → getD hd j 0 ≤ t .words .0
+  pub enough : k ≤ cap → t .words .0 < getD hd k 0
+  pub solved : Solved t u (min k cap) hd tl
+
+-- tables up to `near` do if they hold such a number, or if `near` is the cap
+pub weighed : {t : Task} {u cap near : ℕ} {hd tl : List ℕ} {k : ℕ} → near ≤ cap → Solved t u near hd tl
+    → (k ≤ near + 1) × ((j : ℕ) → j < k → getD hd j 0 ≤ t .words .0) × (k ≤ near → t .words .0 < getD hd k 0)
+    → (k ≤ near) ⊎ (near ≡ cap) → Weighed t u cap hd tl k
+weighed nc solved (range, low, enough) does =
+    record {
+      range = omega arith;
+      low = low;
+      enough = λ h. enough (⊎-elim (λ l. l) (λ e. omega arith) does);
+      solved = solved-fewer _ _ _ _ _ _ (⊎-elim (λ l. omega arith) (λ e. omega arith) does) solved;
+    }
 
 -- ---- one start more
 
@@ -129,54 +148,53 @@ module _ (t : Task) (good : Sound t) (u : ℕ) (b : Found) (z : Sofar t u b) whe
             set = f .set;
           })
 
-  -- ---- its tables, for up to `cap` slots, say what it is worth; k is the least number that is worth enough
+  -- ---- its tables say what it is worth
 
-  module _ (cap k : ℕ) (hd tl : List ℕ) (solved : Solved t u cap hd tl) (ec : cap ≡ min (b .count) (N t - 1))
-      (low : (j : ℕ) → j < k → getD hd j 0 ≤ t .words .0) where
-    row : (j : ℕ) → j ≤ cap → getD hd j 0 ≡ head t u 0 j
+  module _ (cap k : ℕ) (hd tl : List ℕ) (w : Weighed t u cap hd tl k) (ec : cap ≡ min (b .count) (N t - 1)) where
+    row : (j : ℕ) → j ≤ min k cap → getD hd j 0 ≡ head t u 0 j
     row j h =
         let e : 0 * 64 + j ≡ j = omega arith in
-        ap (λ i. getD hd i 0) (sym e) ∙ solved .heads .at 0 j (omega arith) (omega (arith, good .two)) h
+        ap (λ i. getD hd i 0) (sym e) ∙ w .solved .heads .at 0 j (omega arith) (omega (arith, good .two)) h
 
     -- no number of slots up to the cap is worth enough
     pub start-none : cap < k → Sofar t (u + 1) b
     start-none h =
         let range = sofar-range z in
         let n2 = good .two in
-        sofar-same (λ j l. omega (arith, row j (omega arith), low j (omega arith))) (λ l. go l (z .found))
+        sofar-same (λ j l. omega (arith, row j (omega arith), w .low j (omega arith))) (λ l. go l (z .found))
       where
         go : b .count < N t → ((b .count ≡ N t) × (b .value ≡ 0)) ⊎ Holds t u b → head t u 0 (b .count) ≤ b .value
         go l (inl e) = absurd (omega arith)
-        go l (inr f) = omega (arith, row (b .count) (omega arith), low (b .count) (omega arith), f .over)
+        go l (inr f) = omega (arith, row (b .count) (omega arith), w .low (b .count) (omega arith), f .over)
 
     -- as many slots as the best, and worth no more
     pub start-worse : k ≤ cap → k ≡ b .count → getD hd k 0 ≤ b .value → Sofar t (u + 1) b
     start-worse h e l =
-        sofar-same (λ j m. omega (arith, row j (omega arith), low j (omega arith)))
-        (λ m. omega (arith, row k h, ap (head t u 0) e))
+        sofar-same (λ j m. omega (arith, row j (omega arith), w .low j (omega arith)))
+        (λ m. omega (arith, row k (omega arith), ap (head t u 0) e))
 
-    pub start-some : k ≤ cap → t .words .0 < getD hd k 0 → 1 ≤ k
-    start-some h w = go k refl
+    pub start-some : k ≤ cap → 1 ≤ k
+    start-some h = go k refl
       where
         go : (i : ℕ) → k ≡ i → 1 ≤ k
-        go zero q = absurd (omega (arith, row k h, head-zero t u 0 k q))
+        go zero q = absurd (omega (arith, row k (omega arith), w .enough h, head-zero t u 0 k q))
         go (suc i) q = omega arith
 
     -- fewer slots, or as many and worth more
-    pub start-new : (new : Found) → k ≤ cap → t .words .0 < getD hd k 0 → (k < b .count) ⊎ ((k ≡ b .count) × (b .value < getD hd k 0))
+    pub start-new : (new : Found) → k ≤ cap → (k < b .count) ⊎ ((k ≡ b .count) × (b .value < getD hd k 0))
         → new .count ≡ k → new .value ≡ getD hd k 0 → new .start .0 ≡ u → new .slots ≡ greedySet t u k → Sofar t (u + 1) new
-    start-new new h w better ek ev es ex =
+    start-new new h better ek ev es ex =
         record {
           fewest = λ j v l m.
               below-more (λ v. head t v 0 j ≤ t .words .0) u (λ v n. z .fewest j v (omega (arith, le better)) n)
-              (omega (arith, row j (omega arith), low j (omega arith))) v m;
+              (omega (arith, row j (omega arith), w .low j (omega arith))) v m;
           found = inr (record {
             seen = omega arith;
             few = omega (arith, good .two);
-            some = omega (arith, start-some h w);
-            over = omega arith;
-            worth = rw (es, ek) (sym (row k h) ∙ sym ev);
-            most = below-more (λ v. head t v 0 (new .count) ≤ new .value) u (λ v m. omega (arith, less better v m)) (rw ek (omega (arith, row k h)));
+            some = omega (arith, start-some h);
+            over = omega (arith, w .enough h);
+            worth = rw (es, ek) (sym (row k (omega arith)) ∙ sym ev);
+            most = below-more (λ v. head t v 0 (new .count) ≤ new .value) u (λ v m. omega (arith, less better v m)) (rw ek (omega (arith, row k (omega arith))));
             first = λ v m. less better v (omega arith);
             set = rw (es, ek) ex;
           });
@@ -187,7 +205,7 @@ module _ (t : Task) (good : Sound t) (u : ℕ) (b : Found) (z : Sofar t u b) whe
         le (inr a) = omega arith
 
         less : (k < b .count) ⊎ ((k ≡ b .count) × (b .value < getD hd k 0)) → (v : ℕ) → v < u → head t v 0 (new .count) < new .value
-        less (inl a) v m = rw ek (omega (arith, z .fewest k v a m))
+        less (inl a) v m = rw ek (omega (arith, w .enough h, z .fewest k v a m))
         less (inr (a, c)) v m = go (z .found)
           where
             go : ((b .count ≡ N t) × (b .value ≡ 0)) ⊎ Holds t u b → head t v 0 (new .count) < new .value

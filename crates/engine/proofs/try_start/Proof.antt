@@ -10,19 +10,33 @@ use Rattle.optimum.specs.Search.{sofar-range, short-run, start-shut, start-hope
 use Rattle.engine.proofs.try_start.Statement.{statement}
 use Rattle.engine.proofs.try_start.Tie as tie
 
+-- the place where the cap is set, and the entry, as seen from where the start is weighed
+abbrev capped : tie.After-weigh → tie.After-smaller
+capped c = c .before .before .before
+
+abbrev entry : tie.After-weigh → tie.Start
+entry c = capped c .before .before .before .before .before .before .before .before
+
 free-run-requires : tie.Need-free-run-requires
 free-run-requires c κs = (c .before .before .pre .0, omega (arith, c .before .before .pre .0 .legal .n1))
 
 returns : tie.Need-returns
 returns c =
-    let none : 0 ≡ 0 + c .before .free-run .result = omega arith in
-    start-shut (c .before .before .before .before .args .task) (c .before .before .before .before .pre .0) (c .before .before .before .before .args .start .0) (c .before .before .before .before .args .best) (c .before .before .before .before .pre .1 .1 .1) (ap (opens (c .before .before .before .before .args .task) (c .before .before .before .before .args .start .0)) none ∙ c .before .free-run .ensures .1 .stop)
+    let at = c .before .before .before .before in
+    let ran = c .before .free-run in
+    let none : 0 ≡ 0 + ran .result = omega arith in
+    start-shut _ (at .pre .0) _ _ (at .pre .1 .1 .1) (ap (opens (at .args .task) (at .args .start .0)) none ∙ ran .ensures .1 .stop)
 
 hopeless-requires : tie.Need-hopeless-requires
-hopeless-requires c κs = (c .before .before .before .before .pre .0, (sofar-range (c .before .before .before .before .pre .1 .1 .1), short-run _ (c .before .before .before .before .pre .0) _ _ (c .before .before .before .before .pre .1 .1 .0)))
+hopeless-requires c κs =
+    let (good, (_, (short, sofar))) = c .before .before .before .before .pre in
+    (good, (sofar-range sofar, short-run _ good _ _ short))
 
 returns-2 : tie.Need-returns-2
-returns-2 c = start-hopeless (c .before .before .before .before .before .before .args .task) (c .before .before .before .before .before .before .pre .0) (c .before .before .before .before .before .before .args .start .0) (c .before .before .before .before .before .before .args .best) (c .before .before .before .before .before .before .pre .1 .1 .1) (c .before .before .before .free-run .result) (omega arith) (c .before .before .before .free-run .ensures .1) (c .before .hopeless .ensures (c .if2 .taken))
+returns-2 c =
+    let ran = c .before .before .before in
+    let at = ran .before .before .before in
+    start-hopeless _ (at .pre .0) _ _ (at .pre .1 .1 .1) _ (omega arith) (ran .free-run .ensures .1) (c .before .hopeless .ensures (c .if2 .taken))
 
 sub-smaller : tie.Need-sub-smaller
 sub-smaller c = omega (arith, c .before .before .before .before .before .before .before .pre .0 .legal .n1)
@@ -30,11 +44,10 @@ sub-smaller c = omega (arith, c .before .before .before .before .before .before 
 smaller-requires : tie.Need-smaller-requires
 smaller-requires c κs = search needs
 
-fill-requires : tie.Need-fill-requires
-fill-requires c κs = (c .before .before .before .before .before .before .before .before .before .before .pre .0, omega (arith, c .before .before .smaller .ensures, c .before .before .before .before .before .before .before .before .before .before .pre .0 .legal .n1, c .before .before .before .before .before .before .before .before .before .before .pre .0 .legal .n64))
-
-first-over-requires : tie.Need-first-over-requires
-first-over-requires c κs = (omega (arith, c .before .before .before .before .before .before .before .before .smaller .ensures, c .before .before .before .before .before .before .before .before .before .before .before .before .before .before .before .before .pre .0 .legal .n1, c .before .before .before .before .before .before .before .before .before .before .before .before .before .before .before .before .pre .0 .legal .n64), c .before .before .before .before .before .fill .kept .0 ∙ c .before .before .before .before .before .before .before .before .before .before .before .before .before .before .before .before .pre .1 .0 .1)
+weigh-requires : tie.Need-weigh-requires
+weigh-requires c κs =
+    let (good, ((start, heads, tails), _)) = c .before .before .before .before .before .before .before .before .before .before .pre in
+    (good, (start, omega (arith, c .before .before .smaller .ensures, good .legal .n1, good .legal .n64), heads, tails))
 
 same-length : tie.Need-same-length
 same-length c = search needs
@@ -43,16 +56,24 @@ same-length-2 : tie.Need-same-length-2
 same-length-2 c = search needs
 
 returns-3 : tie.Need-returns-3
-returns-3 c = start-none (c .before .before .before .before .before .before .before .before .before .before .before .before .before .before .before .before .before .before .args .task) (c .before .before .before .before .before .before .before .before .before .before .before .before .before .before .before .before .before .before .pre .0) (c .before .before .before .before .before .before .before .before .before .before .before .before .before .before .before .before .before .before .args .start .0) (c .before .before .before .before .before .before .before .before .before .before .before .before .before .before .before .before .before .before .args .best) (c .before .before .before .before .before .before .before .before .before .before .before .before .before .before .before .before .before .before .pre .1 .1 .1) (c .before .before .before .before .before .before .before .before .before .before .smaller .result) (c .before .first-over .result) (c .before .before .before .before .before .before .before .fill .last .0) (c .before .before .before .before .before .before .before .fill .last .1 .0) (c .before .before .before .before .before .before .before .fill .ensures) (c .before .before .before .before .before .before .before .before .before .before .smaller .ensures) (c .before .first-over .ensures .1) (c .if3 .taken)
+returns-3 c =
+    let at = c .before .before .before .before .before in
+    let (good, (_, (_, sofar))) = entry at .pre in
+    start-none _ good _ _ sofar _ _ _ _ (at .weigh .ensures) (capped at .smaller .ensures) (c .if3 .taken)
 
 mul-v : tie.Need-mul-v
-mul-v c = omega (arith, c .before .before .before .before .before .before .before .before .before .before .smaller .ensures, c .before .before .before .before .before .before .before .before .before .before .before .before .before .before .before .before .before .before .pre .0 .legal .n1, c .before .before .before .before .before .before .before .before .before .before .before .before .before .before .before .before .before .before .pre .0 .legal .n64)
+mul-v c =
+    let at = c .before .before .before .before .before in
+    omega (arith, capped at .smaller .ensures, entry at .pre .0 .legal .n1, entry at .pre .0 .legal .n64)
 
 slice-read-v : tie.Need-slice-read-v
-slice-read-v c = omega (arith, c .before .before .before .before .before .before .before .before .before .before .before .smaller .ensures, c .before .before .before .before .before .before .before .before .before .before .before .before .before .before .before .before .before .before .before .pre .0 .legal .n1, c .before .before .before .before .before .before .before .before .before .before .before .before .before .before .before .before .before .before .before .pre .0 .legal .n64, c .before .before .before .before .before .before .before .before .fill .kept .0 ∙ c .before .before .before .before .before .before .before .before .before .before .before .before .before .before .before .before .before .before .before .pre .1 .0 .1)
+slice-read-v c =
+    let at = c .before .before .before .before .before .before in
+    let long = at .weigh .kept .0 ∙ entry at .pre .1 .0 .1 in
+    omega (arith, capped at .smaller .ensures, entry at .pre .0 .legal .n1, entry at .pre .0 .legal .n64, long)
 
 improves-requires : tie.Need-improves-requires
-improves-requires c κs = omega (arith, c .before .before .before .before .before .before .before .before .before .before .before .smaller .ensures)
+improves-requires c κs = omega (arith, capped (c .before .before .before .before .before .before) .smaller .ensures)
 
 same-length-3 : tie.Need-same-length-3
 same-length-3 c = search needs
@@ -62,18 +83,23 @@ same-length-4 c = search needs
 
 returns-4 : tie.Need-returns-4
 returns-4 c =
-    let (a, b) = c .before .improves .ensures .1 (not-true _ (c .if4 .taken)) in
-    start-worse (c .before .before .before .before .before .before .before .before .before .before .before .before .before .before .before .before .before .before .before .before .before .args .task) (c .before .before .before .before .before .before .before .before .before .before .before .before .before .before .before .before .before .before .before .before .before .pre .0) (c .before .before .before .before .before .before .before .before .before .before .before .before .before .before .before .before .before .before .before .before .before .args .start .0) (c .before .before .before .before .before .before .before .before .before .before .before .before .before .before .before .before .before .before .before .before .before .args .best) (c .before .before .before .before .before .before .before .before .before .before .before .before .before .before .before .before .before .before .before .before .before .pre .1 .1 .1) (c .before .before .before .before .before .before .before .before .before .before .before .before .before .smaller .result) (c .before .before .before .before .first-over .result) (c .before .before .before .before .before .before .before .before .before .before .fill .last .0) (c .before .before .before .before .before .before .before .before .before .before .fill .last .1 .0) (c .before .before .before .before .before .before .before .before .before .before .fill .ensures) (c .before .before .before .before .before .before .before .before .before .before .before .before .before .smaller .ensures) (c .before .before .before .before .first-over .ensures .1) (c .before .before .before .if3 .left) a b
+    let at = c .before .before .before .before .before .before .before .before in
+    let (good, (_, (_, sofar))) = entry at .pre in
+    let (same, worse) = c .before .improves .ensures .1 (not-true _ (c .if4 .taken)) in
+    let h = c .before .before .before .if3 .left in
+    start-worse _ good _ _ sofar _ _ _ _ (at .weigh .ensures) (capped at .smaller .ensures) h same worse
 
 rebuild-requires : tie.Need-rebuild-requires
 rebuild-requires c κs =
-    let enough = c .before .before .before .before .before .before .first-over .ensures .2 (c .before .before .before .before .before .if3 .left) in
-    let k1 = start-some (c .before .before .before .before .before .before .before .before .before .before .before .before .before .before .before .before .before .before .before .before .before .before .before .args .task) (c .before .before .before .before .before .before .before .before .before .before .before .before .before .before .before .before .before .before .before .before .before .before .before .pre .0) (c .before .before .before .before .before .before .before .before .before .before .before .before .before .before .before .before .before .before .before .before .before .before .before .args .start .0) (c .before .before .before .before .before .before .before .before .before .before .before .before .before .before .before .before .before .before .before .before .before .before .before .args .best) (c .before .before .before .before .before .before .before .before .before .before .before .before .before .before .before .before .before .before .before .before .before .before .before .pre .1 .1 .1) (c .before .before .before .before .before .before .before .before .before .before .before .before .before .before .before .smaller .result) (c .before .before .before .before .before .before .first-over .result) (c .before .before .before .before .before .before .before .before .before .before .before .before .fill .last .0) (c .before .before .before .before .before .before .before .before .before .before .before .before .fill .last .1 .0) (c .before .before .before .before .before .before .before .before .before .before .before .before .fill .ensures) (c .before .before .before .before .before .before .before .before .before .before .before .before .before .before .before .smaller .ensures) (c .before .before .before .before .before .before .first-over .ensures .1) (c .before .before .before .before .before .if3 .left) enough in
-    let k64 : c .before .before .before .before .before .before .first-over .result < 64 = omega (arith, c .before .before .before .before .before .before .before .before .before .before .before .before .before .before .before .smaller .ensures, c .before .before .before .before .before .before .before .before .before .before .before .before .before .before .before .before .before .before .before .before .before .before .before .pre .0 .legal .n1, c .before .before .before .before .before .before .before .before .before .before .before .before .before .before .before .before .before .before .before .before .before .before .before .pre .0 .legal .n64) in (
-      c .before .before .before .before .before .before .before .before .before .before .before .before .before .before .before .before .before .before .before .before .before .before .before .pre .0,
+    let at = c .before .before .before .before .before .before .before .before .before .before in
+    let (good, ((start, heads, tails), (_, sofar))) = entry at .pre in
+    let h = c .before .before .before .before .before .if3 .left in
+    let some = start-some _ good _ _ sofar _ _ _ _ (at .weigh .ensures) (capped at .smaller .ensures) h in
+    let few : at .weigh .result < 64 = omega (arith, capped at .smaller .ensures, good .legal .n1, good .legal .n64) in (
+      good,
       (
-        (c .before .before .before .before .before .before .before .before .before .before .before .before .before .before .before .before .before .before .before .before .before .before .before .pre .1 .0 .0, k1, k64, c .before .before .before .before .before .before .before .before .before .before .before .before .fill .kept .0 ∙ c .before .before .before .before .before .before .before .before .before .before .before .before .before .before .before .before .before .before .before .before .before .before .before .pre .1 .0 .1, c .before .before .before .before .before .before .before .before .before .before .before .before .fill .kept .1 .0 ∙ c .before .before .before .before .before .before .before .before .before .before .before .before .before .before .before .before .before .before .before .before .before .before .before .pre .1 .0 .2, omega arith),
-        solved-fewer _ _ _ _ _ _ (c .before .before .before .before .before .if3 .left) (c .before .before .before .before .before .before .before .before .before .before .before .before .fill .ensures),
+        (start, some, few, at .weigh .kept .0 ∙ heads, at .weigh .kept .1 .0 ∙ tails, omega (arith, at .weigh .ensures .enough h)),
+        solved-fewer _ _ _ _ _ _ (omega arith) (at .weigh .ensures .solved),
       ),
     )
 
@@ -85,8 +111,11 @@ same-length-6 c = search needs
 
 returns-5 : tie.Need-returns-5
 returns-5 c =
-    start-new (c .before .before .before .before .before .before .before .before .before .before .before .before .before .before .before .before .before .before .before .before .before .before .before .before .args .task) (c .before .before .before .before .before .before .before .before .before .before .before .before .before .before .before .before .before .before .before .before .before .before .before .before .pre .0) (c .before .before .before .before .before .before .before .before .before .before .before .before .before .before .before .before .before .before .before .before .before .before .before .before .args .start .0) (c .before .before .before .before .before .before .before .before .before .before .before .before .before .before .before .before .before .before .before .before .before .before .before .before .args .best) (c .before .before .before .before .before .before .before .before .before .before .before .before .before .before .before .before .before .before .before .before .before .before .before .before .pre .1 .1 .1) (c .before .before .before .before .before .before .before .before .before .before .before .before .before .before .before .before .smaller .result) (c .before .before .before .before .before .before .before .first-over .result) (c .before .before .before .before .before .before .before .before .before .before .before .before .before .fill .last .0) (c .before .before .before .before .before .before .before .before .before .before .before .before .before .fill .last .1 .0) (c .before .before .before .before .before .before .before .before .before .before .before .before .before .fill .ensures) (c .before .before .before .before .before .before .before .before .before .before .before .before .before .before .before .before .smaller .ensures) (c .before .before .before .before .before .before .before .first-over .ensures .1) _ (c .before .before .before .before .before .before .if3 .left)
-    (c .before .before .before .before .before .before .before .first-over .ensures .2 (c .before .before .before .before .before .before .if3 .left)) (c .before .before .before .before .improves .ensures .0 (not-false _ (c .before .before .before .if4 .left))) refl refl refl (c .rebuild .ensures)
+    let at = c .before .before .before .before .before .before .before .before .before .before .before in
+    let (good, (_, (_, sofar))) = entry at .pre in
+    let h = c .before .before .before .before .before .before .if3 .left in
+    let better = c .before .before .before .before .improves .ensures .0 (not-false _ (c .before .before .before .if4 .left)) in
+    start-new _ good _ _ sofar _ _ _ _ (at .weigh .ensures) (capped at .smaller .ensures) _ h better refl refl refl (c .rebuild .ensures)
 
 pub try-start-spec : {M : Type 1} → statement M
 try-start-spec =
@@ -98,8 +127,7 @@ try-start-spec =
     returns-2
     sub-smaller
     smaller-requires
-    fill-requires
-    first-over-requires
+    weigh-requires
     same-length
     same-length-2
     returns-3
