@@ -6,11 +6,13 @@ ghost use mathlib.Core.Bool.{true, false};
 ghost use mathlib.Core.Logic.{_⊎_};
 ghost use Prim.Native.Nat.{ℕ, _+_, _-_, _*_, _<_, _≤_};
 ghost use lib.ListN.{getD};
+ghost use Rattle.rules.specs.Sets.{has};
 ghost use Rattle.rules.specs.Wheels.{Legal, words};
 ghost use Rattle.rules.specs.Promises.{Grants};
 ghost use Rattle.line.specs.Tables.{Sound};
 ghost use Rattle.line.specs.Bound.{Paid};
 ghost use Rattle.optimum.specs.Search.{Sofar, Short, Hopeless, Weighed};
+ghost use Rattle.optimum.specs.Later.{Enough};
 ghost use Rattle.optimum.specs.Answer.{Asked};
 use line::Task;
 use optimum::Found;
@@ -48,12 +50,25 @@ fn least_headers(task: Task, f: usize, k: usize) -> usize
     }
 }
 
+// Whether k slots are too few because with a limit of 1 only the full wheel will do.
+fn lacks(task: Task, k: usize) -> bool
+    ensures { λ r. ⌜ (r ≡ true → (task .limit < 2) × (k < task .wheel .n)) ⌝ }
+{
+    if 1 < task.limit {
+        return false;
+    }
+    k < task.wheel.n
+}
+
 // No k slots whose first packet has at most f deliver more words than this.
 fn most_words(task: Task, f: usize, k: usize) -> u16
     requires { ⌜ Sound task ⌝ }
     requires { ⌜ k ≤ task .wheel .n ⌝ }
     ensures { λ r. ⌜ ((v : ℕ) → Paid task f k v → v ≤ r) ⌝ }
 {
+    if lacks(task, k) {
+        return 0;
+    }
     let all = (k as u16) * task.wheel.s.0;
     let paid = (least_headers(task, f, k) as u16) * task.wheel.h.0;
     if paid < all { all - paid } else { 0 }
@@ -122,11 +137,15 @@ fn improves(k: usize, v: u16, best: Found) -> bool
     false
 }
 
-// Where to cap the tables at first: the fewest slots that may do are often, but for one or two, what
-// it takes.
-fn first_cap(least: usize, cap: usize) -> usize
+// Where to cap the tables of a wheel of n slots at first. While nothing is found, the fewest slots
+// that may do are often, but for one or two, what it takes; afterwards the cap itself is low.
+fn first_cap(n: usize, least: usize, cap: usize) -> usize
+    requires { ⌜ cap < 64 ⌝ }
     ensures { λ r. ⌜ r ≤ cap ⌝ }
 {
+    if cap + 1 < n {
+        return cap;
+    }
     if cap < 2 {
         return cap;
     }
@@ -150,7 +169,7 @@ fn weigh(
     requires { do ⌜ (start .0 < task .wheel .n) × (cap < 64) × ((← ⟦heads.len()⟧) ≡ 4096) × ((← ⟦tails.len()⟧) ≡ 4096) ⌝ }
     ensures { λ k. ⌜ Weighed task (start .0) cap (now (heads .exit)) (now (tails .exit)) k ⌝ }
 {
-    let near = first_cap(least, cap);
+    let near = first_cap(task.wheel.n, least, cap);
     tables::fill(heads, tails, task, start, near);
     let k = first_over(heads, near, task.words.0);
     if k <= near {
@@ -202,6 +221,31 @@ fn try_start(
     }
 }
 
+// Whether all slots are free, where f of them are free from slot 0 on, not counting the last one.
+fn all_free(task: Task, f: usize) -> bool
+    requires { ⌜ Sound task ⌝ }
+    requires { ⌜ f < task .wheel .n ⌝ }
+    ensures { λ r. ⌜ (r ≡ true → (f + 1 ≡ task .wheel .n) × (has (task .free) f ≡ true)) ⌝ }
+{
+    if f + 1 < task.wheel.n {
+        return false;
+    }
+    measure::has_slot(task.free, f)
+}
+
+// So many starts are enough. A set that keeps the gaps has a start less than `limit` slots after any
+// slot that is not free; and where all are free, every start is like the first.
+fn enough(task: Task) -> usize
+    requires { ⌜ Sound task ⌝ }
+    ensures { λ r. ⌜ Enough task r ⌝ }
+{
+    let f = tables::free_run(task, PathSlot(0), 0);
+    if all_free(task, f) {
+        return 1;
+    }
+    tables::smaller(task.wheel.n, task.limit + f)
+}
+
 // The best of all starts.
 fn search(heads: &mut [u16], tails: &mut [u16], task: Task) -> Found
     requires { ⌜ Sound task ⌝ }
@@ -211,6 +255,7 @@ fn search(heads: &mut [u16], tails: &mut [u16], task: Task) -> Found
     let n = task.wheel.n;
     let period = task.wheel.p;
     let least = fewest(task, period, 0, n);
+    let end = enough(task);
     let mut best = Found {
         count: n,
         value: 0,
@@ -218,7 +263,7 @@ fn search(heads: &mut [u16], tails: &mut [u16], task: Task) -> Found
         slots: 0,
     };
     let mut t = 0;
-    while t < n {
+    while t < end {
         if hopeless(task, period, least, best) {
             return best;
         }

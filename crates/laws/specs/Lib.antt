@@ -7,6 +7,7 @@ pub mod Turns
 pub mod Reading
 pub mod Runs
 pub mod Gaps
+pub mod Holes
 pub mod Whole
 pub mod Bounds
 pub mod Order

@@ -1,21 +1,22 @@
 -- The whole of the free slots does at least as well as any part of them: it delivers no fewer words,
 -- since both can be read from a slot where the larger set is cut, and its gaps are no larger, since
 -- from every slot the next chosen one comes no later.
-use mathlib.Core.Path.{_≡_, refl, ap, _∙_}
+use mathlib.Core.Path.{_≡_, refl, ap}
 use mathlib.Core.Bool.{Bool, true, false, not, cond}
-use Prim.Native.Nat.{ℕ, zero, suc, _+_, _-_, _%_, _≤_, _<_}
+use Prim.Native.Nat.{ℕ, suc, _+_, _-_, _%_, _≤_, _<_}
 use native.Mathlib.Omega.{arith}
-use native.Mathlib.Nat.{add-suc, add-zero, zero-add}
+use native.Mathlib.Nat.{zero-add}
 use borrow.Author.Tests.{not-true}
 use Rattle.rules.specs.declared.Wheel.{Wheel}
 use Rattle.rules.specs.Sets.{Within}
 use Rattle.rules.specs.Wheels.{Legal, chosen, full, start, run, runWords, wordsAt, words, gap}
 use Rattle.laws.specs.Logic.{not-both, not-true-false}
 use Rattle.laws.specs.Counting.{sum-some, stretch-more}
-use Rattle.laws.specs.Turns.{chosen-turn, start-both, runs-from}
+use Rattle.laws.specs.Turns.{start-both, runs-from}
 use Rattle.laws.specs.Reading.{flags, sub-flags, words-mono}
 use Rattle.laws.specs.Runs.{line, words-read, cut, full-each, full-words}
-use Rattle.laws.specs.Gaps.{gap-over, near-turn, near-back}
+use Rattle.laws.specs.Gaps.{near-back}
+use Rattle.laws.specs.Holes.{all-near}
 
 -- ---- a set that delivers words has a slot
 
@@ -69,22 +70,7 @@ module _ (w : Wheel) (legal : Legal w) (F y : ℕ) (within : Within F y) where
       λ j e. ap not (clear-within j (not-true (chosen (w .n) F j) e)) in
       omega (arith, stretch-more _ _ clear (w .n - 1) (suc i))
 
-  module _ (L s : ℕ) (at : chosen (w .n) y s ≡ true) (near : (i : ℕ) → i < w .n → chosen (w .n) y i ≡ true → gap (w .n) y i ≤ L) where
-    -- from a slot that is not chosen, too, the next chosen one is at most L away
-    all-near : (d : ℕ) → d < w .n → gap (w .n) y (s + d) ≤ L
-    all-near zero h = near-turn (w .n) y (legal .n1) L near (s + 0) (ap (chosen (w .n) y) (add-zero s) ∙ at)
-    all-near (suc d) h = go (chosen (w .n) y (s + suc d)) refl (all-near d (omega arith))
-      where
-        go : (b : Bool) → chosen (w .n) y (s + suc d) ≡ b → gap (w .n) y (s + d) ≤ L → gap (w .n) y (s + suc d) ≤ L
-        go true o q = near-turn (w .n) y (legal .n1) L near (s + suc d) o
-        go false o q =
-            let m = w .n - suc (suc d) in
-            let e : suc (suc (s + d)) + m ≡ s + w .n = omega arith in
-            rw (add-suc s d)
-            (omega (
-              arith,
-              gap-over (w .n) y (s + d) m (omega arith) (rw (add-suc s d) at o) (ap (chosen (w .n) y) e ∙ chosen-turn (w .n) y s ∙ at),
-            ))
-
-    pub near-within : (i : ℕ) → i < w .n → chosen (w .n) F i ≡ true → gap (w .n) F i ≤ L
-    near-within i h = near-back (w .n) F (legal .n1) L s (λ d k o. omega (arith, gap-within (s + d), all-near d k)) i
+  pub near-within : (L s : ℕ) → chosen (w .n) y s ≡ true → ((i : ℕ) → i < w .n → chosen (w .n) y i ≡ true → gap (w .n) y i ≤ L)
+      → (i : ℕ) → i < w .n → chosen (w .n) F i ≡ true → gap (w .n) F i ≤ L
+  near-within L s at near i h =
+      near-back (w .n) F (legal .n1) L s (λ d k o. omega (arith, gap-within (s + d), all-near w legal y L s at near d k)) i

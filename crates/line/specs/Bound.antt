@@ -180,6 +180,12 @@ module _ (t : Task) (good : Sound t) where
       let stop = stretch-stops (opens t s) (f - 1) 1 (N t - 1) (ap (opens t s) i ∙ run .stop) in
       paid-more (omega (arith, leading-flags (opens t s) 1 (N t - 1))) (paid-head s k v e)
 
+-- with a limit of 1 only the full wheel will do
+pub none-paid : (t : Task) → Sound t → {f k v : ℕ} → (L t < 2) × (k < N t) → Paid t f k v → ⊥
+none-paid t good (l, h) z =
+    let one : L t ≡ 1 = omega (arith, good .l1) in
+    omega (arith, rw one at (z .gaps))
+
 -- at least c headers are paid: so much is left at most
 pub most-left : (t : Task) (f k c : ℕ) → ((d : ℕ) → k + (P t - f) ≤ d * P t → N t ≤ k + d * (L t - 1) → c ≤ d) → (v : ℕ) → Paid t f k v
     → v + c * H t ≤ k * S t

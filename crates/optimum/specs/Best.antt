@@ -5,7 +5,7 @@ use mathlib.Core.Path.{_≡_, refl, sym, ap, _∙_, subst, subst₂}
 use mathlib.Core.Bool.{Bool, true, false}
 use mathlib.Core.List.{List, _∷_}
 use mathlib.Core.Logic.{_⊎_, inl, inr, ⊎-elim}
-use Prim.Native.Nat.{ℕ, zero, suc, pred, _+_, _-_, _≤_, _<_}
+use Prim.Native.Nat.{ℕ, suc, pred, _+_, _-_, _≤_, _<_}
 use native.Mathlib.Omega.{arith}
 use Rattle.rules.specs.Sets.{Within, places}
 use Rattle.rules.specs.Wheels.{chosen, start, size, full, words, gap}
@@ -16,14 +16,15 @@ use Rattle.laws.specs.Turns.{start-both}
 use Rattle.laws.specs.Reading.{count}
 use Rattle.laws.specs.Runs.{line, not-full}
 use Rattle.line.specs.declared.Task.{Task}
-use Rattle.line.specs.Values.{N, L, took, raised, raised-parts, slotWords, phase, worth, taking, greedy, greedy-attains, greedy-first, Attains, First, both}
+use Rattle.line.specs.Values.{N, L, raised, slotWords, phase, worth, greedy, greedy-first, Attains, First, both}
 use Rattle.line.specs.Packets.{opens, ahead, head}
 use Rattle.line.specs.Tables.{Sound}
 use Rattle.line.specs.Choice.{begun}
 use Rattle.line.specs.Rebuild.{greedySet}
 use Rattle.optimum.specs.Starts.{before-smallest, has-smallest, from, size-full, size-less, same-from, first-before}
 use Rattle.optimum.specs.Rival.{others, from-start, size-others, words-others, rival, rival-worth}
-use Rattle.optimum.specs.Made.{made, greedy-made, made-within, made-start, made-size, made-words, made-near, made-others}
+use Rattle.optimum.specs.Made.{greedy-made, made-others}
+use Rattle.optimum.specs.Value as value
 
 -- k slots at the start s, worth v words, are optimal
 pub record Optimum (t : Task) (s k v : ℕ) : Type 0 where
@@ -34,50 +35,37 @@ pub record Optimum (t : Task) (s k v : ℕ) : Type 0 where
   pub most : (u : ℕ) → u < N t → head t u 0 k ≤ suc v
   pub earliest : (u : ℕ) → u < s → head t u 0 k ≤ v
 
-took-parts : (b : Bool) (k a z v : ℕ) → took b k a z ≡ suc v → (b ≡ true) × (k ≡ suc (pred k)) × (raised a z ≡ suc v)
-unfolding took
-took-parts true (suc k) a z v e = (refl, refl, e)
-took-parts true zero a z v e = absurd (omega arith)
-took-parts false k a z v e = absurd (omega arith)
-
 module _ (t : Task) (good : Sound t) (s k v : ℕ) (o : Optimum t s k v) where
-  rest-worth : ℕ
-  rest-worth = worth t (ahead t s 1) 1 (phase t 0) (pred k)
+  -- the choice at the start, and the set that is granted
+  parts : (opens t s 0 ≡ true) × (k ≡ suc (pred k)) × (raised (slotWords t 0) (worth t (ahead t s 1) 1 (phase t 0) (pred k)) ≡ suc v)
+  parts = value.parts t good s k v (o .within) (o .value)
 
-  parts : (opens t s 0 ≡ true) × (k ≡ suc (pred k)) × (raised (slotWords t 0) rest-worth ≡ suc v)
-  unfolding head taking rest-worth
-  parts = took-parts (opens t s 0) k (slotWords t 0) rest-worth v (o .value)
+  abbrev rest-words : (u : ℕ) × (worth t (ahead t s 1) 1 (phase t 0) (pred k) ≡ suc u) × (slotWords t 0 + u ≡ v)
+  rest-words = value.rest-words t good s k v (o .within) (o .value)
 
-  rest-words : (u : ℕ) × (rest-worth ≡ suc u) × (slotWords t 0 + u ≡ v)
-  rest-words = raised-parts (slotWords t 0) rest-worth v (parts .2)
-
-  -- the greedy choice after the start
   abbrev pick : List Bool
-  pick = greedy t (ahead t s 1) 1 (phase t 0) (pred k)
+  pick = value.pick t good s k v (o .within) (o .value)
 
   attains : Attains t 1 (ahead t s 1) (phase t 0) (pred k) (rest-words .0) pick
-  unfolding rest-worth
-  attains = greedy-attains t (ahead t s 1) 1 (phase t 0) (pred k) (rest-words .0) (rest-words .1)
+  attains = value.attains t good s k v (o .within) (o .value)
 
-  -- the set that is granted
   abbrev R : ℕ
-  R = made (N t) s (true ∷ pick)
+  R = value.R t good s k v (o .within) (o .value)
 
   R-within : Within (t .free) R
-  R-within = made-within t good s (o .within) (parts .0) pick (attains .pick)
+  R-within = value.R-within t good s k v (o .within) (o .value)
 
   R-start : start (N t) R s ≡ true
-  R-start = made-start t good s (o .within) (parts .0) pick (attains .pick)
+  R-start = value.R-start t good s k v (o .within) (o .value)
 
   R-size : size (N t) R ≡ k
-  R-size = made-size t good s (o .within) (parts .0) pick (attains .pick) ∙ ap suc (attains .ones) ∙ sym (parts .1)
+  R-size = value.R-size t good s k v (o .within) (o .value)
 
   R-words : words (t .wheel) R ≡ v
-  R-words =
-      made-words t good s (o .within) (parts .0) pick (attains .pick) ∙ ap (λ n. slotWords t 0 + n) (attains .value) ∙ rest-words .2
+  R-words = value.R-words t good s k v (o .within) (o .value)
 
   R-near : (i : ℕ) → i < N t → chosen (N t) R i ≡ true → gap (N t) R i ≤ L t
-  R-near = made-near t good s (o .within) (parts .0) pick (attains .pick)
+  R-near = value.R-near t good s k v (o .within) (o .value)
 
   R-smallest : smallestStart (N t) R ≡ s
   R-smallest =
@@ -103,7 +91,7 @@ module _ (t : Task) (good : Sound t) (s k v : ℕ) (o : Optimum t s k v) where
   -- a rival with as many slots, as many words and the same smallest start
   tie : (y : ℕ) → Within (t .free) y → Meets (t .wheel) (t .words .0) (L t) y → start (N t) y s ≡ true → smallestStart (N t) y ≡ s
       → size (N t) y ≡ k → words (t .wheel) y ≡ v → (R ≡ y) ⊎ Better (t .wheel) R y
-  unfolding count rest-worth distances
+  unfolding count distances
   tie y yin ym st sm sk wv =
       let tl = others t good y s st in
       let from-y = from-start t good y s st in

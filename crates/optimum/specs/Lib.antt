@@ -2,6 +2,8 @@ pub mod Starts
 pub mod Cut
 pub mod Rival
 pub mod Made
+pub mod Value
 pub mod Best
 pub mod Search
+pub mod Later
 pub mod Answer

@@ -1,4 +1,4 @@
--- The best of the starts below t is known; where the rest is hopeless, it is the best of all.
+-- The best of the starts below t is known; where the rest is hopeless, or enough starts were tried, it is the best of all.
 use mathlib.Core.Path.{_≡_, refl, _∙_}
 use Prim.Native.Nat.{_-_, _≤_}
 use native.Mathlib.Omega.{arith}
@@ -8,19 +8,27 @@ use Rattle.engine.proofs.search.Statement.{statement}
 use Rattle.engine.proofs.search.Tie as tie
 
 abbrev Inv-loop : tie.InvT-loop
-Inv-loop heads₀ tails₀ task n period least best₀ t₀ heads tails best t = (t ≤ n) × (length heads ≡ 4096) × (length tails ≡ 4096) × Sofar task t best
+Inv-loop heads₀ tails₀ task n period least end best₀ t₀ heads tails best t =
+    (t ≤ end) × (end ≤ n) × (length heads ≡ 4096) × (length tails ≡ 4096) × Sofar task t best
 
 abbrev μ-loop : tie.MeasureT-loop
-μ-loop heads₀ tails₀ task n period least best₀ t₀ heads tails best t = n - t
+μ-loop heads₀ tails₀ task n period least end best₀ t₀ heads tails best t = end - t
 
 fewest-requires : tie.Need-fewest-requires Inv-loop μ-loop
 fewest-requires c κs = (c .before .before .pre .0, (omega arith, short-none _ _))
 
+enough-requires : tie.Need-enough-requires Inv-loop μ-loop
+enough-requires c κs = c .before .before .before .pre .0
+
 loop-holds : tie.Need-loop-holds Inv-loop μ-loop
-loop-holds c = (omega arith, c .before .before .before .pre .1 .0, c .before .before .before .pre .1 .1, sofar-none _ _ refl refl)
+loop-holds c =
+    let (good, (heads, tails)) = c .before .before .before .before .pre in
+    (omega arith, c .enough .ensures .range, heads, tails, sofar-none _ _ refl refl)
 
 hopeless-requires : tie.Need-hopeless-requires Inv-loop μ-loop
-hopeless-requires c κs = (c .before .before .before .before .before .pre .0, (sofar-range (c .before .loop .inv .3), c .before .before .fewest .ensures))
+hopeless-requires c κs =
+    let told = c .before .before .before in
+    (told .before .before .before .pre .0, (sofar-range (c .before .loop .inv .4), told .fewest .ensures))
 
 same-length : tie.Need-same-length Inv-loop μ-loop
 same-length c = omega arith
@@ -29,24 +37,31 @@ same-length-2 : tie.Need-same-length-2 Inv-loop μ-loop
 same-length-2 c = omega arith
 
 returns : tie.Need-returns Inv-loop μ-loop
-returns c = all-hopeless _ (c .before .before .before .before .before .before .before .pre .0) _ _ (c .before .before .before .loop .inv .3) (c .before .before .before .loop .inv .0) (c .before .hopeless .ensures (c .if1 .taken))
+returns c =
+    let at = c .before .before .before in
+    let good = at .before .before .before .before .before .pre .0 in
+    all-hopeless _ good _ _ (at .loop .inv .4) (omega (arith, at .loop .inv)) (c .before .hopeless .ensures (c .if1 .taken))
 
 try-start-requires : tie.Need-try-start-requires Inv-loop μ-loop
 try-start-requires c κs =
-    let at = c .before .before .before .before .before .loop in
-    (c .before .before .before .before .before .before .before .before .before .pre .0, ((omega arith, at .inv .1, at .inv .2), (c .before .before .before .before .before .before .fewest .ensures, at .inv .3)))
+    let at = c .before .before .before .before .before in
+    let told = at .before .before in
+    let inv = at .loop .inv in
+    (told .before .before .before .pre .0, ((omega (arith, inv), inv .2, inv .3), (told .fewest .ensures, inv .4)))
 
 add-t : tie.Need-add-t Inv-loop μ-loop
-add-t c = omega (arith, c .before .before .before .before .before .before .before .before .before .before .before .before .before .before .pre .0 .legal .n64)
+add-t c =
+    let at = c .before .before .before .before .before .before .before .before .before .before in
+    omega (arith, at .loop .inv, at .before .before .before .before .before .pre .0 .legal .n64)
 
 loop-less : tie.Need-loop-less Inv-loop μ-loop
 loop-less c = omega arith
 
 loop-again : tie.Need-loop-again Inv-loop μ-loop
 loop-again c =
-    let at = c .before .before .before .before .before .before .before .before .before .before .loop in
-    let ts = c .before .before .before .before .try-start in
-    (omega arith, ts .kept .0 ∙ at .inv .1, ts .kept .1 .0 ∙ at .inv .2, ts .ensures)
+    let inv = c .before .before .before .before .before .before .before .before .before .before .loop .inv in
+    let tried = c .before .before .before .before .try-start in
+    (omega arith, inv .1, tried .kept .0 ∙ inv .2, tried .kept .1 .0 ∙ inv .3, tried .ensures)
 
 same-length-3 : tie.Need-same-length-3 Inv-loop μ-loop
 same-length-3 c = omega arith
@@ -56,8 +71,8 @@ same-length-4 c = omega arith
 
 returns-2 : tie.Need-returns-2 Inv-loop μ-loop
 returns-2 c =
-    let all : c .before .loop .t ≡ c .before .before .before .before .before .args .task .wheel .n = omega arith in
-    rw all at (c .before .loop .inv .3)
+    let all : c .before .loop .t ≡ c .before .before .enough .result = omega (arith, c .before .loop .inv) in
+    c .before .before .enough .ensures .all _ (rw all at (c .before .loop .inv .4))
 
 pub search-spec : {M : Type 1} → statement M
 search-spec =
@@ -66,6 +81,7 @@ search-spec =
     Inv-loop
     μ-loop
     fewest-requires
+    enough-requires
     loop-holds
     hopeless-requires
     same-length
