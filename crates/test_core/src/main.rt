@@ -155,7 +155,7 @@ fn some_words(seed: u64, d: Dial) -> u64 {
     if rarely(seed, 11, 10) {
         return draw(seed, 12, plus(all, 3));
     }
-    draw(seed, 13, plus(all / 4, 3))
+    draw(seed, 13, plus(all / 8, 3))
 }
 
 // A deadline, rarely below the path's length.
@@ -561,15 +561,15 @@ fn made(n: u64, s: u64, h: u64, p: u64, channels: u64, flows: u64) -> Setup {
 }
 
 fn main() {
-    run(made(1, 3, 1, 3, 1, 1), 60);
-    run(made(5, 3, 1, 3, 4, 8), 120);
-    run(made(5, 2, 0, 1, 64, 64), 120);
-    run(made(8, 3, 1, 3, 1, 8), 120);
-    run(made(8, 3, 1, 3, 16, 16), 200);
-    run(made(8, 4, 3, 1, 4, 1), 120);
-    run(made(16, 3, 1, 3, 16, 8), 120);
-    run(made(16, 5, 2, 64, 64, 64), 120);
-    run(made(64, 3, 1, 3, 64, 64), 100);
-    run(made(64, 64, 63, 2, 16, 16), 100);
-    run(made(64, 3, 1, 20, 4, 16), 100);
+    run(made(1, 3, 1, 3, 1, 1), 600);
+    run(made(5, 3, 1, 3, 4, 8), 1200);
+    run(made(5, 2, 0, 1, 64, 64), 1200);
+    run(made(8, 3, 1, 3, 1, 8), 1200);
+    run(made(8, 3, 1, 3, 16, 16), 2000);
+    run(made(8, 4, 3, 1, 4, 1), 1200);
+    run(made(16, 3, 1, 3, 16, 8), 1200);
+    run(made(16, 5, 2, 64, 64, 64), 1200);
+    run(made(64, 3, 1, 3, 64, 64), 1000);
+    run(made(64, 64, 63, 2, 16, 16), 1000);
+    run(made(64, 3, 1, 20, 4, 16), 1000);
 }
