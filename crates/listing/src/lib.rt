@@ -4,7 +4,6 @@ ghost use mathlib.Core.Path.{_≡_};
 ghost use Prim.Native.Nat.{_+_, _*_, _≤_, _<_};
 ghost use lib.ListN.{length};
 ghost use Rattle.rules.specs.Sets.{listOf};
-ghost use Rattle.rules.specs.Promises.{closedRecord};
 ghost use Rattle.listing.specs.Listing.{wheel, Blanks, Writes};
 ghost use Rattle.listing.specs.Lines.{state, OpenLine, CloseLine, ReportLine, Lined, Fed};
 ghost use Rattle.listing.specs.Runs.{Turned, Ran};
@@ -12,7 +11,6 @@ use reading::Parsed;
 use reading::Verb;
 use rules::Demand;
 use rules::Record;
-use rules::State;
 use rules::Wheel;
 use rules::Words;
 
@@ -201,23 +199,11 @@ fn empty_table() -> [u8; 1024]
     [0; 1024]
 }
 
-// The record of a flow that is closed.
-fn closed() -> Record
-    ensures { λ r. ⌜ r ≡ closedRecord ⌝ }
-{
-    Record {
-        state: State::Closed,
-        path: [0; 16],
-        len: 0,
-        slots: 0,
-    }
-}
-
 // A list of flows that are all closed.
 fn no_flows() -> [Record; 64]
     ensures { λ r. ⌜ Blanks r ⌝ }
 {
-    let r = closed();
+    let r = core::closed_record();
     [r; 64]
 }
 
