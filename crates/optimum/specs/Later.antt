@@ -21,7 +21,7 @@ use Rattle.line.specs.Tables.{Sound, FreeRun}
 use Rattle.optimum.specs.declared.Found.{Found}
 use Rattle.optimum.specs.Rival.{rival-worth}
 use Rattle.optimum.specs.Value.{R, R-within, R-start, R-size, R-words, R-near}
-use Rattle.optimum.specs.Search.{Sofar, Holds}
+use Rattle.optimum.specs.Search.{Sofar, sofar-on}
 
 -- the best of the starts below u is the best of all
 pub record Enough (t : Task) (u : ℕ) : Type 0 where
@@ -30,24 +30,14 @@ pub record Enough (t : Task) (u : ℕ) : Type 0 where
 
 -- it is where for every start there is one below u that is worth as much
 covered : (t : Task) (u : ℕ) → u ≤ N t → ((v k : ℕ) → v < N t → (s : ℕ) × (s < u) × (head t v 0 k ≤ head t s 0 k)) → Enough t u
-covered t u un same = record { range = un; all = λ b known. record { fewest = low b known; found = go b (known .found) } }
-  where
-    low : (b : Found) → Sofar t u b → (j v : ℕ) → j < b .count → v < N t → head t v 0 j ≤ t .words .0
-    low b known j v h l = let (s, su, worth) = same v j l in omega (arith, known .fewest j s h su)
-
-    go : (b : Found) → ((b .count ≡ N t) × (b .value ≡ 0)) ⊎ Holds t u b → ((b .count ≡ N t) × (b .value ≡ 0)) ⊎ Holds t (N t) b
-    go b (inl e) = inl e
-    go b (inr f) =
-        inr (record {
-          seen = omega (arith, f .seen);
-          few = f .few;
-          some = f .some;
-          over = f .over;
-          worth = f .worth;
-          most = λ v l. let (s, su, worth) = same v (b .count) l in omega (arith, f .most s su);
-          first = f .first;
-          set = f .set;
-        })
+covered t u un same =
+    record {
+      range = un;
+      all = λ b known.
+          sofar-on (N t) un known
+          (λ j v h l. let (s, su, worth) = same v j l in omega (arith, known .fewest j s h su))
+          (λ f v l. let (s, su, worth) = same v (b .count) l in omega (arith, f .most s su));
+    }
 
 -- ---- a slot that is not free
 

@@ -39,6 +39,25 @@ sofar-none t b c v = record { fewest = λ j u h l. absurd (omega arith); found =
 pub sofar-range : {t : Task} {u : ℕ} {b : Found} → Sofar t u b → b .count ≤ N t
 sofar-range z = ⊎-elim (λ e. omega arith) (λ f. omega (arith, f .few)) (z .found)
 
+-- what is known of the starts below u holds for more starts, where none of these does better
+pub sofar-on : {t : Task} {u : ℕ} {b : Found} (w : ℕ) → u ≤ w → Sofar t u b → ((j v : ℕ) → j < b .count → v < w → head t v 0 j ≤ t .words .0)
+    → (Holds t u b → (v : ℕ) → v < w → head t v 0 (b .count) ≤ b .value) → Sofar t w b
+sofar-on {t = t} {u = u} {b = b} w h z low top = record { fewest = low; found = go (z .found) }
+  where
+    go : ((b .count ≡ N t) × (b .value ≡ 0)) ⊎ Holds t u b → ((b .count ≡ N t) × (b .value ≡ 0)) ⊎ Holds t w b
+    go (inl e) = inl e
+    go (inr f) =
+        inr (record {
+          seen = omega (arith, f .seen);
+          few = f .few;
+          some = f .some;
+          over = f .over;
+          worth = f .worth;
+          most = top f;
+          first = f .first;
+          set = f .set;
+        })
+
 -- ---- bounds
 
 -- fewer than k slots do not deliver the words, where the first packet has at most f
@@ -87,24 +106,9 @@ module _ (t : Task) (good : Sound t) (u : ℕ) (b : Found) (z : Sofar t u b) whe
   -- the start u brings nothing better
   sofar-same : ((j : ℕ) → j < b .count → head t u 0 j ≤ t .words .0) → (b .count < N t → head t u 0 (b .count) ≤ b .value) → Sofar t (u + 1) b
   sofar-same low top =
-      record {
-        fewest = λ j v h l. below-more (λ v. head t v 0 j ≤ t .words .0) u (λ v m. z .fewest j v h m) (low j h) v l;
-        found = go (z .found);
-      }
-    where
-      go : ((b .count ≡ N t) × (b .value ≡ 0)) ⊎ Holds t u b → ((b .count ≡ N t) × (b .value ≡ 0)) ⊎ Holds t (u + 1) b
-      go (inl e) = inl e
-      go (inr f) =
-          inr (record {
-            seen = omega (arith, f .seen);
-            few = f .few;
-            some = f .some;
-            over = f .over;
-            worth = f .worth;
-            most = below-more (λ v. head t v 0 (b .count) ≤ b .value) u (f .most) (top (f .few));
-            first = f .first;
-            set = f .set;
-          })
+      sofar-on (u + 1) (omega arith) z
+      (λ j v h l. below-more (λ v. head t v 0 j ≤ t .words .0) u (λ v m. z .fewest j v h m) (low j h) v l)
+      (λ f. below-more (λ v. head t v 0 (b .count) ≤ b .value) u (f .most) (top (f .few)))
 
   pub start-shut : opens t u 0 ≡ false → Sofar t (u + 1) b
   start-shut e = sofar-same (λ j h. omega (arith, head-shut t u 0 j e)) (λ h. omega (arith, head-shut t u 0 (b .count) e))
@@ -124,7 +128,8 @@ module _ (t : Task) (good : Sound t) (u : ℕ) (b : Found) (z : Sofar t u b) whe
 
   -- all later starts are passed over
   pub all-hopeless : u ≤ N t → Hopeless t (P t) b → Sofar t (N t) b
-  all-hopeless un lost = record { fewest = λ j v h l. low j v h (head t v 0 j) refl; found = go (z .found) }
+  all-hopeless un lost =
+      sofar-on (N t) un z (λ j v h l. low j v h (head t v 0 j) refl) (λ f v l. top v (f .few) (head t v 0 (b .count)) refl)
     where
       low : (j v : ℕ) → j < b .count → (x : ℕ) → head t v 0 j ≡ x → x ≤ t .words .0
       low j v h zero e = omega arith
@@ -133,20 +138,6 @@ module _ (t : Task) (good : Sound t) (u : ℕ) (b : Found) (z : Sofar t u b) whe
       top : (v : ℕ) → b .count < N t → (x : ℕ) → head t v 0 (b .count) ≡ x → x ≤ b .value
       top v h zero e = omega arith
       top v h (suc x) e = lost .top h x (paid-any t good v (b .count) x e)
-
-      go : ((b .count ≡ N t) × (b .value ≡ 0)) ⊎ Holds t u b → ((b .count ≡ N t) × (b .value ≡ 0)) ⊎ Holds t (N t) b
-      go (inl e) = inl e
-      go (inr f) =
-          inr (record {
-            seen = omega (arith, f .seen);
-            few = f .few;
-            some = f .some;
-            over = f .over;
-            worth = f .worth;
-            most = λ v l. top v (f .few) (head t v 0 (b .count)) refl;
-            first = f .first;
-            set = f .set;
-          })
 
   -- ---- its tables say what it is worth
 
