@@ -1,37 +1,40 @@
 -- How the tables are filled: from the last position to the first, first the row of tails and then the row of heads.
--- The function of one entry does not know at which start the wheel is cut, and need not: what it computes is right for
+-- The function of one row does not know at which start the wheel is cut, and need not: what it computes is right for
 -- every start whose tables the later rows hold.
 use mathlib.Core.Path.{_≡_, refl, sym, ap, ap₂, _∙_, subst}
 use mathlib.Core.Bool.{Bool, true, false, cond}
 use mathlib.Core.List.{List}
-use mathlib.Core.Logic.{_⊎_, inl, inr}
+use mathlib.Core.Logic.{_⊎_, inl, inr, ⊎-elim}
 use Prim.Native.Nat.{ℕ, zero, suc, _+_, _-_, _*_, _≤_, _<_, max, min}
 use native.Mathlib.Omega.{arith}
-use native.Mathlib.Nat.{mul-le-mul-right, eq-or-lt-of-le}
+use native.Mathlib.Nat.{add-zero, mul-le-mul-right, eq-or-lt-of-le}
+use lib.Dec.{leb}
 use lib.ListN.{getD, length, set, length-set}
 use lib.Seq.{getD-set-same, getD-set-other}
-use borrow.Author.Tests.{le-leb, lt-leb}
+use Rattle.laws.specs.Logic.{le-or-lt}
 use Rattle.line.specs.declared.Task.{Task}
-use Rattle.line.specs.Values.{N, S, P, L, orNone, raised}
+use Rattle.line.specs.Values.{N, S, P, L, orNone, raised, raised-none}
 use Rattle.line.specs.Packets.{packetWords, opens, opens-last, head, tail, head-most, tail-most, tail-done, tail-far, head-shut, head-zero}
-use Rattle.line.specs.Tables.{Sound, entry, FreeRun, Heads, Tails, mostOf, packMost, tail-window, head-long, head-short}
+use Rattle.line.specs.Tables.{Sound, entry, FreeRun, Heads, Tails, mostOf, most-none, most-more, packMost, pack-none, pack-more, pack-same, tail-window, head-long, head-short}
 
 -- ---- one row of a table
 
 -- `new` is `old` with the j entries from `base` on replaced: entry i of them is e i
 pub record Filled (old new : List ℕ) (base j : ℕ) (e : ℕ → ℕ) : Type 0 where
   pub row : (i : ℕ) → i < j → getD new (base + i) 0 ≡ e i
+  pub below : (i : ℕ) → i < base → getD new i 0 ≡ getD old i 0
   pub above : (i : ℕ) → base + j ≤ i → getD new i 0 ≡ getD old i 0
   pub long : length new ≡ length old
 
-filled-none : (old : List ℕ) (base : ℕ) (e : ℕ → ℕ) → Filled old old base 0 e
-filled-none old base e = record { row = λ i h. absurd (omega arith); above = λ i h. refl; long = refl }
+pub filled-none : (old : List ℕ) (base : ℕ) (e : ℕ → ℕ) → Filled old old base 0 e
+filled-none old base e = record { row = λ i h. absurd (omega arith); below = λ i h. refl; above = λ i h. refl; long = refl }
 
-filled-more : (old new : List ℕ) (base j v : ℕ) (e : ℕ → ℕ) → Filled old new base j e → base + j < length old
+pub filled-more : (old new : List ℕ) (base j v : ℕ) (e : ℕ → ℕ) → Filled old new base j e → base + j < length old
     → v ≡ e j → Filled old (set new (base + j) v) base (j + 1) e
 filled-more old new base j v e h b q =
     record {
       row = λ i d. row i (eq-or-lt-of-le d);
+      below = λ i d. getD-set-other new (base + j) i v 0 (omega arith) ∙ h .below i d;
       above = λ i d. getD-set-other new (base + j) i v 0 (omega arith) ∙ h .above i (omega arith);
       long = simp length-set (h .long);
     }
@@ -42,6 +45,48 @@ filled-more old new base j v e h b q =
         rw c (getD-set-same new (base + j) v 0 (omega (arith, h .long)) ∙ q)
     row i (inr d) = getD-set-other new (base + j) (base + i) v 0 (omega arith) ∙ h .row i (omega arith)
 
+-- the entries under another name
+pub filled-as : (old new : List ℕ) (base j : ℕ) (d e : ℕ → ℕ) → Filled old new base j d → ((i : ℕ) → i < j → d i ≡ e i) → Filled old new base j e
+filled-as old new base j d e h q = record { row = λ i l. h .row i l ∙ q i l; below = h .below; above = h .above; long = h .long }
+
+-- the same row a second time
+pub filled-then : (old mid new : List ℕ) (base j : ℕ) (d e : ℕ → ℕ) → Filled old mid base j d → Filled mid new base j e → Filled old new base j e
+filled-then old mid new base j d e a b =
+    record { row = b .row; below = λ i l. b .below i l ∙ a .below i l; above = λ i l. b .above i l ∙ a .above i l; long = b .long ∙ a .long }
+
+-- and from its entry q on
+pub filled-again : (old mid new : List ℕ) (base j q : ℕ) (d e g : ℕ → ℕ) → q ≤ j → Filled old mid base j d
+    → Filled mid new (base + q) (j - q) e → ((i : ℕ) → i < q → d i ≡ g i) → ((i : ℕ) → i < j - q → e i ≡ g (q + i)) → Filled old new base j g
+filled-again old mid new base j q d e g h a b low high =
+    record {
+      row = λ i l. row i l (le-or-lt q i);
+      below = λ i l. b .below i (omega arith) ∙ a .below i l;
+      above = λ i l. b .above i (omega arith) ∙ a .above i l;
+      long = b .long ∙ a .long;
+    }
+  where
+    row : (i : ℕ) → i < j → (q ≤ i) ⊎ (i < q) → getD new (base + i) 0 ≡ g i
+    row i l (inr c) = b .below (base + i) (omega arith) ∙ a .row i l ∙ low i c
+    row i l (inl c) =
+        let m : base + q + (i - q) ≡ base + i = omega arith in
+        let n : q + (i - q) ≡ i = omega arith in
+        ap (λ x. getD new x 0) (sym m) ∙ b .row (i - q) (omega arith) ∙ high (i - q) (omega arith) ∙ ap g n
+
+-- its first entry is written last
+filled-first : (old new : List ℕ) (base j v : ℕ) (d e : ℕ → ℕ) → Filled old new base (j + 1) d → base < length old → v ≡ e 0
+    → ((i : ℕ) → 1 ≤ i → i ≤ j → d i ≡ e i) → Filled old (set new base v) base (j + 1) e
+filled-first old new base j v d e h b first more =
+    record {
+      row = λ i l. row i l;
+      below = λ i l. getD-set-other new base i v 0 (omega arith) ∙ h .below i l;
+      above = λ i l. getD-set-other new base i v 0 (omega arith) ∙ h .above i l;
+      long = simp length-set (h .long);
+    }
+  where
+    row : (i : ℕ) → i < j + 1 → getD (set new base v) (base + i) 0 ≡ e i
+    row zero l = rw (add-zero base) (getD-set-same new base v 0 (omega (arith, h .long)) ∙ first)
+    row (suc i) l = getD-set-other new base (base + suc i) v 0 (omega arith) ∙ h .row (suc i) l ∙ more (suc i) (omega arith) (omega arith)
+
 -- the rows of later positions are as they were
 module _ (t : Task) (s K p j : ℕ) (old new : List ℕ) (e : ℕ → ℕ) (h : j ≤ 64) (f : Filled old new (p * 64) j e) where
   heads-kept : Heads t s K (p + 1) old → Heads t s K (p + 1) new
@@ -50,95 +95,63 @@ module _ (t : Task) (s K p j : ℕ) (old new : List ℕ) (e : ℕ → ℕ) (h : 
   tails-kept : Tails t s K (p + 1) old → Tails t s K (p + 1) new
   tails-kept z = record { at = λ q k a b c. f .above (q * 64 + k) (omega arith) ∙ z .at q k a b c }
 
--- ---- one entry
-
--- r is the tail of k slots at e
-pub record TailOf (t : Task) (hd tl : List ℕ) (e k r : ℕ) : Type 0 where
-  pub is : (s K : ℕ) → k ≤ K → Heads t s K (e + 1) hd → Tails t s K (e + 1) tl → r ≡ tail t s e k
-
--- r is the head of k slots at p, where the f slots from p on are open
-pub record HeadOf (t : Task) (hd tl : List ℕ) (p f k r : ℕ) : Type 0 where
-  pub is : (s K : ℕ) → p + f < N t → k ≤ K → Heads t s K (p + 1) hd → Tails t s K p tl → FreeRun t s p f → r ≡ head t s p k
-
-some : (k : ℕ) → (k ≡ 0 → ⊥) → 1 ≤ k
-some k h = omega arith
-
-module _ (t : Task) (hd tl : List ℕ) (e k r : ℕ) (e2 : e + 2 ≤ N t) where
-  pub tail-of-one : k ≡ 0 → N t - e ≤ L t → r ≡ 1 → TailOf t hd tl e k r
-  unfolding orNone
-  tail-of-one z h q =
-      record { is = λ s K kk hs ts. rw z (q ∙ sym (tail-done t s e e2 ∙ ap (λ b. orNone b 1) (le-leb (N t - e) (L t) h))) }
-
-  pub tail-of-none : k ≡ 0 → L t < N t - e → r ≡ 0 → TailOf t hd tl e k r
-  unfolding orNone
-  tail-of-none z h q =
-      record { is = λ s K kk hs ts. rw z (q ∙ sym (tail-done t s e e2 ∙ ap (λ b. orNone b 1) (lt-leb (N t - e) (L t) h))) }
-
-  pub tail-of-far : (k ≡ 0 → ⊥) → N t ≤ e + L t + 1 → e + 3 < N t → r ≡ max (entry hd (e + 2) k) (entry tl (e + 1) k) → TailOf t hd tl e k r
-  tail-of-far z h l q =
-      record {
-        is = λ s K kk hs ts.
-            q ∙ ap₂ max (hs .at (e + 2) k (omega arith) (omega arith) kk) (ts .at (e + 1) k (omega arith) (omega arith) kk)
-            ∙ sym (tail-far t s e k (omega arith) h (omega arith) (some k z));
-      }
-
-  pub tail-of-window : (k ≡ 0 → ⊥) → 1 ≤ L t → r ≡ mostOf hd k (e + 2) (min (e + L t + 1) (N t - 1) - (e + 2)) → TailOf t hd tl e k r
-  tail-of-window z l1 q = record { is = λ s K kk hs ts. q ∙ sym (tail-window t s K e k hd (some k z) kk hs e2 l1) }
-
-module _ (t : Task) (hd tl : List ℕ) (p f k r : ℕ) where
-  pub head-of-shut : f ≡ 0 → r ≡ 0 → HeadOf t hd tl p f k r
-  head-of-shut z q = record { is = λ s K fn kk hs ts run. q ∙ sym (head-shut t s p k (ap (opens t s) (omega arith) ∙ run .stop)) }
-
-  pub head-of-zero : k ≡ 0 → r ≡ 0 → HeadOf t hd tl p f k r
-  head-of-zero z q = record { is = λ s K fn kk hs ts run. q ∙ sym (head-zero t s p k z) }
-
-  module _ (good : Sound t) (f0 : f ≡ 0 → ⊥) (k0 : k ≡ 0 → ⊥) where
-    pub head-of-long : P t < f → P t < k
-        → r ≡ max (packMost t tl p k 1 (min (P t) (min f k))) (raised (packetWords t (P t)) (entry hd (p + P t) (k - P t)))
-        → HeadOf t hd tl p f k r
-    head-of-long a b q =
-        record { is = λ s K fn kk hs ts run. q ∙ sym (head-long t good s K p k f tl kk (some k k0) ts run (some f f0) fn hd hs a b) }
-
-    pub head-of-short : (f ≤ P t) ⊎ (k ≤ P t) → r ≡ packMost t tl p k 1 (min (P t) (min f k)) → HeadOf t hd tl p f k r
-    head-of-short a q =
-        record { is = λ s K fn kk hs ts run. q ∙ sym (head-short t good s K p k f tl kk (some k k0) ts run (some f f0) fn a) }
-
--- ---- a whole row
+-- ---- a row of tails
 
 -- the entries of 0 to m - 1 slots at e are the tails
 pub record TailRow (t : Task) (cap m e : ℕ) (hd old new : List ℕ) : Type 0 where
   pub is : (s K : ℕ) → cap ≤ K → Heads t s K (e + 1) hd → Tails t s K (e + 1) old → Filled old new (e * 64) m (tail t s e)
 
-pub tail-row-none : (t : Task) (cap e : ℕ) (hd old : List ℕ) → TailRow t cap 0 e hd old old
-tail-row-none t cap e hd old = record { is = λ s K c hs ts. filled-none old (e * 64) (tail t s e) }
+-- those of 1 to cap slots are, and the one of no slot may still be anything
+pub record TailsMore (t : Task) (cap e : ℕ) (hd old new : List ℕ) : Type 0 where
+  pub filled : Filled old new (e * 64) (cap + 1) (entry new e)
+  pub is : (s K k : ℕ) → cap ≤ K → Heads t s K (e + 1) hd → Tails t s K (e + 1) old → 1 ≤ k → k ≤ cap → entry new e k ≡ tail t s e k
 
-pub tail-row-more : (t : Task) (cap k e : ℕ) (hd old new : List ℕ) (r : ℕ) → k ≤ cap → cap < 64 → e * 64 + k < length old
-    → TailRow t cap k e hd old new → TailOf t hd new e k r → TailRow t cap (k + 1) e hd old (set new (e * 64 + k) r)
-tail-row-more t cap k e hd old new r h c b row z =
-    record {
-      is = λ s K kk hs ts.
-          let f = row .is s K kk hs ts in
-          filled-more old new (e * 64) k r (tail t s e) f b
-          (z .is s K (omega arith) hs (tails-kept t s K e k old new (tail t s e) (omega arith) f ts));
-    }
+-- a window of no position, and of one more
+pub window-none : (cap e : ℕ) (hd old new : List ℕ) → Filled old new (e * 64) (cap + 1) (λ k. 0)
+    → Filled new new (e * 64) (cap + 1) (λ k. mostOf hd k (e + 2) (e + 2 - (e + 2)))
+window-none cap e hd old new h =
+    record { row = λ k l. h .row k l ∙ sym (most-none hd k (e + 2) (e + 2) (omega arith)); below = λ i l. refl; above = λ i l. refl; long = refl }
 
--- the entries of 0 to m - 1 slots at p are the heads
-pub record HeadRow (t : Task) (cap m p f : ℕ) (tl old new : List ℕ) : Type 0 where
-  pub is : (s K : ℕ) → p + f < N t → cap ≤ K → Heads t s K (p + 1) old → Tails t s K p tl → FreeRun t s p f
-      → Filled old new (p * 64) m (head t s p)
+pub window-more : (cap e from p : ℕ) (hd old mid new : List ℕ) → from ≤ p
+    → Filled old mid (e * 64) (cap + 1) (λ k. mostOf hd k from (p - from))
+    → Filled mid new (e * 64) (cap + 1) (λ k. max (entry mid e k) (entry hd p k))
+    → Filled old new (e * 64) (cap + 1) (λ k. mostOf hd k from (p + 1 - from))
+window-more cap e from p hd old mid new h a b =
+    filled-then old mid new (e * 64) (cap + 1) _ _ a
+    (filled-as mid new (e * 64) (cap + 1) _ _ b (λ k l. ap (λ v. max v (entry hd p k)) (a .row k l) ∙ sym (most-more hd k from p h)))
 
-pub head-row-none : (t : Task) (cap p f : ℕ) (tl old : List ℕ) → HeadRow t cap 0 p f tl old old
-head-row-none t cap p f tl old = record { is = λ s K fn c hs ts run. filled-none old (p * 64) (head t s p) }
+module _ (t : Task) (cap e : ℕ) (hd old new : List ℕ) (e2 : e + 2 ≤ N t) where
+  -- the limit cuts nothing
+  pub tails-far : cap < 64 → N t ≤ e + L t + 1 → e + 3 < N t
+      → Filled old new (e * 64) (cap + 1) (λ k. max (entry hd (e + 2) k) (getD old (e * 64 + 64 + k) 0)) → TailsMore t cap e hd old new
+  tails-far c63 h l f =
+      record {
+        filled = filled-as old new (e * 64) (cap + 1) _ (entry new e) f (λ k l. sym (f .row k l));
+        is = λ s K k c hs ts k1 kc.
+            let next : e * 64 + 64 + k ≡ (e + 1) * 64 + k = omega arith in
+            f .row k (omega arith) ∙ ap₂ max (hs .at (e + 2) k (omega arith) (omega arith) (omega arith))
+            (ap (λ i. getD old i 0) next ∙ ts .at (e + 1) k (omega arith) (omega arith) (omega arith))
+            ∙ sym (tail-far t s e k (omega arith) h (omega arith) k1);
+      }
 
-pub head-row-more : (t : Task) (cap k p f : ℕ) (tl old new : List ℕ) (r : ℕ) → k ≤ cap → cap < 64 → p * 64 + k < length old
-    → HeadRow t cap k p f tl old new → HeadOf t new tl p f k r → HeadRow t cap (k + 1) p f tl old (set new (p * 64 + k) r)
-head-row-more t cap k p f tl old new r h c b row z =
-    record {
-      is = λ s K fn kk hs ts run.
-          let g = row .is s K fn kk hs ts run in
-          filled-more old new (p * 64) k r (head t s p) g b
-          (z .is s K fn (omega arith) (heads-kept t s K p k old new (head t s p) (omega arith) g hs) ts run);
-    }
+  -- the window of the heads that the limit allows
+  pub tails-near : 1 ≤ L t → (end : ℕ) → end ≡ min (e + L t + 1) (N t - 1)
+      → Filled old new (e * 64) (cap + 1) (λ k. mostOf hd k (e + 2) (end - (e + 2))) → TailsMore t cap e hd old new
+  tails-near l1 end q f =
+      record {
+        filled = filled-as old new (e * 64) (cap + 1) _ (entry new e) f (λ k l. sym (f .row k l));
+        is = λ s K k c hs ts k1 kc.
+            f .row k (omega arith) ∙ ap (λ m. mostOf hd k (e + 2) (m - (e + 2))) q ∙ sym (tail-window t s K e k hd k1 (omega arith) hs e2 l1);
+      }
+
+  pub tail-row-done : TailsMore t cap e hd old new → e * 64 < length old → (v : ℕ) → v ≡ orNone (leb (N t - e) (L t)) 1
+      → TailRow t cap (cap + 1) e hd old (set new (e * 64) v)
+  tail-row-done z b v q =
+      record {
+        is = λ s K c hs ts.
+            filled-first old new (e * 64) cap v (entry new e) (tail t s e) (z .filled) b (q ∙ sym (tail-done t s e e2))
+            (λ k k1 kc. z .is s K k c hs ts k1 kc);
+      }
 
 -- ---- the entries are small
 
@@ -158,33 +171,114 @@ small k S v a b h =
     let c : k * S ≤ 63 * S = mul-le-mul-right S a in
     omega arith
 
+-- and leave room for the words of a packet
+pub words-room : (t : Task) (q v : ℕ) → Sound t → q ≤ 64 → v ≤ 4097 → packetWords t q + v < 65536
+words-room t q v good h l =
+    let c : q * S t ≤ 64 * S t = mul-le-mul-right (S t) h in
+    omega (arith, good .legal .s64)
+
 module _ (t : Task) (good : Sound t) (hd tl : List ℕ) (p f k : ℕ) (z : Held t hd tl p f k) where
-  pub held-tail : (q : ℕ) → 1 ≤ q → q ≤ f → q ≤ k → entry tl (p + q - 1) (k - q) ≤ 4097
-  held-tail q a b c =
-      rw (z .tails .at (p + q - 1) (k - q) (omega arith) (omega (arith, z .runs)) (omega (arith, z .kk)))
-      (small (k - q) (S t) _ (omega (arith, z .kk, z .k63)) (good .legal .s64) (tail-most t (z .s) (p + q - 1) (k - q)))
+  pub held-tail : (q i : ℕ) → 1 ≤ q → q ≤ f → q + i ≤ k → entry tl (p + q - 1) i ≤ 4097
+  held-tail q i a b c =
+      rw (z .tails .at (p + q - 1) i (omega arith) (omega (arith, z .runs)) (omega (arith, z .kk)))
+      (small i (S t) _ (omega (arith, z .kk, z .k63)) (good .legal .s64) (tail-most t (z .s) (p + q - 1) i))
 
-  pub held-head : P t < f → P t < k → entry hd (p + P t) (k - P t) ≤ 4097
-  held-head b c =
-      rw (z .heads .at (p + P t) (k - P t) (omega (arith, good .legal .p1)) (omega (arith, z .runs)) (omega (arith, z .kk)))
-      (small (k - P t) (S t) _ (omega (arith, z .kk, z .k63)) (good .legal .s64) (head-most t (z .s) (p + P t) (k - P t)))
+  pub held-head : (i : ℕ) → P t < f → P t + i ≤ k → entry hd (p + P t) i ≤ 4097
+  held-head i b c =
+      rw (z .heads .at (p + P t) i (omega (arith, good .legal .p1)) (omega (arith, z .runs)) (omega (arith, z .kk)))
+      (small i (S t) _ (omega (arith, z .kk, z .k63)) (good .legal .s64) (head-most t (z .s) (p + P t) i))
 
--- in the course of a row, too
-pub held-now : (t : Task) (cap k p f : ℕ) (tl old new : List ℕ) → k ≤ cap → cap < 64 → HeadRow t cap k p f tl old new
-    → Held t old tl p f cap → Held t new tl p f k
-held-now t cap k p f tl old new h c row z =
-    record {
-      s = z .s;
-      K = z .K;
-      runs = z .runs;
-      kk = omega (arith, z .kk);
-      k63 = z .k63;
-      heads =
-          heads-kept t (z .s) (z .K) p k old new (head t (z .s) p) (omega arith)
-          (row .is (z .s) (z .K) (z .runs) (z .kk) (z .heads) (z .tails) (z .run)) (z .heads);
-      tails = z .tails;
-      run = z .run;
-    }
+-- ---- a row of heads
+
+-- the entries of 0 to m - 1 slots at p are the heads
+pub record HeadRow (t : Task) (cap m p f : ℕ) (tl old new : List ℕ) : Type 0 where
+  pub is : (s K : ℕ) → p + f < N t → cap ≤ K → Heads t s K (p + 1) old → Tails t s K p tl → FreeRun t s p f
+      → Filled old new (p * 64) m (head t s p)
+
+-- packets of no slot, and of up to q
+pub packets-none : (t : Task) (cap p : ℕ) (tl old new : List ℕ) → Filled old new (p * 64) (cap + 1) (λ k. 0)
+    → Filled new new (p * 64) (cap + 1) (λ k. packMost t tl p k 1 (min (1 - 1) k))
+packets-none t cap p tl old new h =
+    record { row = λ k l. h .row k l ∙ sym (pack-none t tl p k); below = λ i l. refl; above = λ i l. refl; long = refl }
+
+pub packets-more : (t : Task) (cap p q w : ℕ) (tl old mid new : List ℕ) → 1 ≤ q → q ≤ cap → w ≡ packetWords t q
+    → Filled old mid (p * 64) (cap + 1) (λ k. packMost t tl p k 1 (min (q - 1) k))
+    → Filled mid new (p * 64 + q) (cap + 1 - q) (λ i. max (getD mid (p * 64 + q + i) 0) (raised w (entry tl (p + q - 1) i)))
+    → Filled old new (p * 64) (cap + 1) (λ k. packMost t tl p k 1 (min (q + 1 - 1) k))
+packets-more t cap p q w tl old mid new q1 qc e a b =
+    let one : q + 1 - 1 ≡ q = omega arith in
+    rw one
+    (filled-again old mid new (p * 64) (cap + 1) q _ _ (λ k. packMost t tl p k 1 (min q k)) (omega arith) a b
+    (λ k l. pack-same t tl p k q l)
+    (λ i l.
+    let j : q + i - q ≡ i = omega arith in
+    ap₂ max (ap (λ x. getD mid x 0) (omega arith) ∙ a .row (q + i) (omega arith)) (ap₂ raised e (ap (entry tl (p + q - 1)) (sym j)))
+    ∙ sym (pack-more t tl p (q + i) q q1 (omega arith))))
+
+-- the most that a packet of at most P slots comes to is the head, unless the run may go on after a full one
+module _ (t : Task) (good : Sound t) (s K p f k : ℕ) (tl : List ℕ) (fn : p + f < N t) (kk : k ≤ K) (ts : Tails t s K p tl) (run : FreeRun t s p f) where
+  head-ends : (f ≤ P t) ⊎ (k ≤ P t) → packMost t tl p k 1 (min (P t) (min f k)) ≡ head t s p k
+  unfolding packMost
+  head-ends z = go (le-or-lt 1 f) (le-or-lt 1 k)
+    where
+      go : (1 ≤ f) ⊎ (f < 1) → (1 ≤ k) ⊎ (k < 1) → packMost t tl p k 1 (min (P t) (min f k)) ≡ head t s p k
+      go (inl a) (inl b) = sym (head-short t good s K p k f tl kk b ts run a fn z)
+      go (inr a) b =
+          let n : min (P t) (min f k) ≡ 0 = omega arith in
+          rw n (sym (head-shut t s p k (ap (opens t s) (omega arith) ∙ run .stop)))
+      go (inl a) (inr b) =
+          let n : min (P t) (min f k) ≡ 0 = omega arith in
+          rw n (sym (head-zero t s p k (omega arith)))
+
+  head-goes-on : (hd : List ℕ) → Heads t s K (p + 1) hd → P t < f → P t ≤ k
+      → max (packMost t tl p k 1 (min (P t) (min f k))) (raised (packetWords t (P t)) (entry hd (p + P t) (k - P t))) ≡ head t s p k
+  head-goes-on hd hs a b = go (le-or-lt k (P t))
+    where
+      go : (k ≤ P t) ⊎ (P t < k)
+          → max (packMost t tl p k 1 (min (P t) (min f k))) (raised (packetWords t (P t)) (entry hd (p + P t) (k - P t))) ≡ head t s p k
+      go (inr c) = sym (head-long t good s K p k f tl kk (omega arith) ts run (omega arith) fn hd hs a c)
+      go (inl c) =
+          let none = hs .at (p + P t) (k - P t) (omega (arith, good .legal .p1)) (omega arith) (omega arith) ∙ head-zero t s (p + P t) (k - P t) (omega arith) in
+          omega (arith, raised-none (packetWords t (P t)) _ none, head-ends (inr c))
+
+module _ (t : Task) (good : Sound t) (cap p f m : ℕ) (tl old new : List ℕ) (c63 : cap < 64) (top : m ≡ min (P t) (min f cap))
+    (packed : Filled old new (p * 64) (cap + 1) (λ k. packMost t tl p k 1 (min m k))) where
+  least : (k : ℕ) → k ≤ cap → packMost t tl p k 1 (min m k) ≡ packMost t tl p k 1 (min (P t) (min f k))
+  least k h = ap (packMost t tl p k 1) (omega arith)
+
+  pub head-row-ends : (f ≤ P t) ⊎ (cap < P t) → HeadRow t cap (cap + 1) p f tl old new
+  head-row-ends z =
+      record {
+        is = λ s K fn c hs ts run.
+            filled-as old new (p * 64) (cap + 1) _ (head t s p) packed
+            (λ k l. least k (omega arith)
+            ∙ head-ends t good s K p f k tl fn (omega arith) ts run (⊎-elim (λ a. inl a) (λ a. inr (omega arith)) z));
+      }
+
+  packed-at : (i : ℕ) → P t + i ≤ cap → getD new (p * 64 + P t + i) 0 ≡ packMost t tl p (P t + i) 1 (min (P t) (min f (P t + i)))
+  packed-at i h = ap (λ x. getD new x 0) (omega arith) ∙ packed .row (P t + i) (omega arith) ∙ least (P t + i) h
+
+  later-kept : (i : ℕ) → entry new (p + P t) i ≡ entry old (p + P t) i
+  later-kept i = packed .above ((p + P t) * 64 + i) (omega (arith, good .legal .p1))
+
+  pub head-room : Held t old tl p f cap → P t < f → (w : ℕ) → w ≡ packetWords t (P t) → (i : ℕ) → i < cap + 1 - P t
+      → w + entry new (p + P t) i < 65536
+  head-room z a w q i l =
+      let v = held-head t good old tl p f cap z i a (omega arith) in
+      omega (arith, later-kept i, words-room t (P t) _ good (good .legal .p64) v)
+
+  pub head-row-goes-on : (last : List ℕ) (w : ℕ) → P t < f → P t ≤ cap → w ≡ packetWords t (P t)
+      → Filled new last (p * 64 + P t) (cap + 1 - P t) (λ i. max (getD new (p * 64 + P t + i) 0) (raised w (entry new (p + P t) i)))
+      → HeadRow t cap (cap + 1) p f tl old last
+  head-row-goes-on last w a b q on =
+      record {
+        is = λ s K fn c hs ts run.
+            filled-again old new last (p * 64) (cap + 1) (P t) _ _ (head t s p) (omega arith) packed on
+            (λ k l. least k (omega arith) ∙ head-ends t good s K p f k tl fn (omega arith) ts run (inr (omega arith)))
+            (λ i l.
+            ap₂ max (packed-at i (omega arith)) (ap₂ raised q (later-kept i ∙ ap (entry old (p + P t)) (omega arith)))
+            ∙ head-goes-on t good s K p f (P t + i) tl fn (omega arith) ts run old hs a (omega arith));
+      }
 
 -- ---- all positions
 

@@ -48,11 +48,18 @@ unfoldable pub mostOf : List ℕ → ℕ → ℕ → ℕ → ℕ
 mostOf tb k p zero = 0
 mostOf tb k p (suc m) = max (entry tb p k) (mostOf tb k (p + 1) m)
 
-pub most-step : (tb : List ℕ) (k p end : ℕ) → p < end → mostOf tb k p (end - p) ≡ max (entry tb p k) (mostOf tb k (p + 1) (end - (p + 1)))
+-- one position more
+pub most-more : (tb : List ℕ) (k p q : ℕ) → p ≤ q → mostOf tb k p (q + 1 - p) ≡ max (mostOf tb k p (q - p)) (entry tb q k)
 unfolding mostOf
-most-step tb k p end h =
-    let e : end - p ≡ suc (end - (p + 1)) = omega arith in
-    rw e
+most-more tb k p q h =
+    let e : q + 1 - p ≡ suc (q - p) = omega arith in
+    rw e (go (q - p) p (omega arith))
+  where
+    go : (m p : ℕ) → p + m ≡ q → mostOf tb k p (suc m) ≡ max (mostOf tb k p m) (entry tb q k)
+    go zero p c =
+        let d : p ≡ q = omega arith in
+        rw d (omega arith)
+    go (suc m) p c = omega (arith, go m (p + 1) (omega arith))
 
 pub most-none : (tb : List ℕ) (k p end : ℕ) → end ≤ p → mostOf tb k p (end - p) ≡ 0
 unfolding mostOf
@@ -91,18 +98,31 @@ unfoldable pub packMost : Task → List ℕ → ℕ → ℕ → ℕ → ℕ → 
 packMost t tl p k q zero = 0
 packMost t tl p k q (suc m) = max (raised (packetWords t q) (entry tl (p + q - 1) (k - q))) (packMost t tl p k (q + 1) m)
 
-pub pack-step : (t : Task) (tl : List ℕ) (p k q end : ℕ) → q ≤ end → packMost t tl p k q (end + 1 - q)
-    ≡ max (raised (packetWords t q) (entry tl (p + q - 1) (k - q))) (packMost t tl p k (q + 1) (end + 1 - (q + 1)))
+pub pack-none : (t : Task) (tl : List ℕ) (p k : ℕ) → packMost t tl p k 1 (min (1 - 1) k) ≡ 0
 unfolding packMost
-pack-step t tl p k q end h =
-    let e : end + 1 - q ≡ suc (end + 1 - (q + 1)) = omega arith in
+pack-none t tl p k =
+    let e : min (1 - 1) k ≡ 0 = omega arith in
     rw e
 
-pub pack-none : (t : Task) (tl : List ℕ) (p k q end : ℕ) → end < q → packMost t tl p k q (end + 1 - q) ≡ 0
-unfolding packMost
-pack-none t tl p k q end h =
-    let e : end + 1 - q ≡ 0 = omega arith in
-    rw e
+-- a packet of one slot more, where so many are to be taken
+module _ (t : Task) (tl : List ℕ) (p k q : ℕ) where
+  pub pack-more : 1 ≤ q → q ≤ k → packMost t tl p k 1 (min q k)
+      ≡ max (packMost t tl p k 1 (min (q - 1) k)) (raised (packetWords t q) (entry tl (p + q - 1) (k - q)))
+  unfolding packMost
+  pack-more h l =
+      let a : min q k ≡ suc (q - 1) = omega arith in
+      let b : min (q - 1) k ≡ q - 1 = omega arith in
+      rw (a, b) (go (q - 1) 1 (omega arith))
+    where
+      go : (m i : ℕ) → i + m ≡ q → packMost t tl p k i (suc m)
+          ≡ max (packMost t tl p k i m) (raised (packetWords t q) (entry tl (p + q - 1) (k - q)))
+      go zero i c =
+          let d : i ≡ q = omega arith in
+          rw d (omega arith)
+      go (suc m) i c = omega (arith, go m (i + 1) (omega arith))
+
+  pub pack-same : k < q → packMost t tl p k 1 (min (q - 1) k) ≡ packMost t tl p k 1 (min q k)
+  pack-same h = ap (packMost t tl p k 1) (omega arith)
 
 module _ (t : Task) (good : Sound t) (s K p k f : ℕ) (tl : List ℕ) (kk : k ≤ K) (k1 : 1 ≤ k)
     (ts : Tails t s K p tl) (fr : FreeRun t s p f) (f1 : 1 ≤ f) (fn : p + f < N t) where

@@ -74,6 +74,11 @@ unfolding raised
 raised-some a zero e = absurd (e refl)
 raised-some a (suc v) e = omega arith
 
+pub raised-none : (a v : ℕ) → v ≡ 0 → raised a v ≡ 0
+unfolding raised
+raised-none a zero e = refl
+raised-none a (suc v) e = absurd (omega arith)
+
 orNone-parts : (b : Bool) (w v : ℕ) → orNone b w ≡ suc v → (b ≡ true) × (w ≡ suc v)
 unfolding orNone
 orNone-parts true w v e = (refl, e)

@@ -4,11 +4,12 @@
 ghost use mathlib.Core.Path.{_≡_};
 ghost use mathlib.Core.Bool.{cond};
 ghost use Prim.Native.Nat.{ℕ, _+_, _-_, _*_, _<_, _≤_, max, min};
-ghost use lib.ListN.{length};
-ghost use Rattle.line.specs.Values.{raised};
+ghost use lib.Dec.{leb};
+ghost use lib.ListN.{length, getD};
+ghost use Rattle.line.specs.Values.{orNone, raised};
 ghost use Rattle.line.specs.Packets.{packetWords, opens};
 ghost use Rattle.line.specs.Tables.{Sound, FreeRun, entry, mostOf, packMost};
-ghost use Rattle.line.specs.Rows.{TailOf, HeadOf, Held, TailRow, HeadRow, Solved};
+ghost use Rattle.line.specs.Rows.{Filled, TailsMore, TailRow, HeadRow, Held, Solved};
 use line::Task;
 use rules::PathSlot;
 
@@ -74,86 +75,107 @@ pub fn free_run(task: Task, start: PathSlot, p: usize) -> usize
     f
 }
 
-// The best head of k slots at the positions from `from` to before `end`.
-fn window(heads: &[u16], k: usize, from: usize, end: usize) -> u16
-    requires { do ⌜ (k < 64) × (end ≤ 64) × ((← ⟦heads.len()⟧) ≡ 4096) ⌝ }
-    ensures { λ r. ⌜ r ≡ mostOf (now (heads .entry)) k from (end - from) ⌝ }
+// The m entries of a table from `at` on become 0.
+fn clear(table: &mut [u16], at: usize, m: usize)
+    requires { do ⌜ at + m ≤ (← ⟦table.len()⟧) ⌝ }
+    ensures { λ _. ⌜ Filled (now (table .entry)) (now (table .exit)) at m (λ i. 0) ⌝ }
 {
-    let mut best: u16 = 0;
-    let mut p = from;
-    while p < end {
-        best = better(best, heads[p * 64 + k]);
-        p += 1;
+    let mut i = 0;
+    while i < m {
+        table[at + i] = 0;
+        i += 1;
     }
-    best
 }
 
-// The tail of k slots at e: the best head that the gap allows, and for no slot whether the gap over
-// the wrap is allowed. Where the limit cuts nothing, the tail at e + 1 has most of that.
-fn tail_entry(heads: &[u16], tails: &[u16], task: Task, e: usize, k: usize) -> u16
+// The m tails from `at` on become the better of the heads from `by` on and the tails of the next
+// position.
+fn carry(tails: &mut [u16], at: usize, heads: &[u16], by: usize, m: usize)
+    requires { do ⌜ (m ≤ 64) × (at + 64 + m ≤ (← ⟦tails.len()⟧)) × (by + m ≤ (← ⟦heads.len()⟧)) ⌝ }
+    ensures { λ _. ⌜ Filled (now (tails .entry)) (now (tails .exit)) at m (λ i. max (getD (now (heads .entry)) (by + i) 0) (getD (now (tails .entry)) (at + 64 + i) 0)) ⌝ }
+{
+    let mut i = 0;
+    while i < m {
+        tails[at + i] = better(heads[by + i], tails[at + 64 + i]);
+        i += 1;
+    }
+}
+
+// The m tails from `at` on become at least the heads from `by` on.
+fn lift(tails: &mut [u16], at: usize, heads: &[u16], by: usize, m: usize)
+    requires { do ⌜ (at + m ≤ (← ⟦tails.len()⟧)) × (by + m ≤ (← ⟦heads.len()⟧)) ⌝ }
+    ensures { λ _. ⌜ Filled (now (tails .entry)) (now (tails .exit)) at m (λ i. max (getD (now (tails .entry)) (at + i) 0) (getD (now (heads .entry)) (by + i) 0)) ⌝ }
+{
+    let mut i = 0;
+    while i < m {
+        tails[at + i] = better(tails[at + i], heads[by + i]);
+        i += 1;
+    }
+}
+
+// The m heads from `at` on become at least the tails from `by` on with `words` more on top.
+fn raise(heads: &mut [u16], at: usize, tails: &[u16], by: usize, m: usize, words: u16)
+    requires { do ⌜ (at + m ≤ (← ⟦heads.len()⟧)) × (by + m ≤ (← ⟦tails.len()⟧)) ⌝ }
+    requires { ⌜ ((i : ℕ) → i < m → words + getD (now tails) (by + i) 0 < 65536) ⌝ }
+    ensures { λ _. ⌜ Filled (now (heads .entry)) (now (heads .exit)) at m (λ i. max (getD (now (heads .entry)) (at + i) 0) (raised words (getD (now (tails .entry)) (by + i) 0))) ⌝ }
+{
+    let mut i = 0;
+    while i < m {
+        heads[at + i] = better(heads[at + i], raised(words, tails[by + i]));
+        i += 1;
+    }
+}
+
+// The same with the heads of a later position: `by` lies past the entries that are raised.
+fn go_on(heads: &mut [u16], at: usize, by: usize, m: usize, words: u16)
+    requires { do ⌜ (at + m ≤ by) × (by + m ≤ (← ⟦heads.len()⟧)) ⌝ }
+    requires { ⌜ ((i : ℕ) → i < m → words + getD (now heads) (by + i) 0 < 65536) ⌝ }
+    ensures { λ _. ⌜ Filled (now (heads .entry)) (now (heads .exit)) at m (λ i. max (getD (now (heads .entry)) (at + i) 0) (raised words (getD (now (heads .entry)) (by + i) 0))) ⌝ }
+{
+    let mut i = 0;
+    while i < m {
+        heads[at + i] = better(heads[at + i], raised(words, heads[by + i]));
+        i += 1;
+    }
+}
+
+// The tails at e become the best heads at the positions from e + 2 to before `end`.
+fn window(tails: &mut [u16], heads: &[u16], e: usize, end: usize, cap: usize)
+    requires { do ⌜ (e < 64) × (end ≤ 64) × (cap < 64) × ((← ⟦heads.len()⟧) ≡ 4096) × ((← ⟦tails.len()⟧) ≡ 4096) ⌝ }
+    ensures { λ _. ⌜ Filled (now (tails .entry)) (now (tails .exit)) (e * 64) (cap + 1) (λ k. mostOf (now (heads .entry)) k (e + 2) (end - (e + 2))) ⌝ }
+{
+    clear(tails, e * 64, cap + 1);
+    let mut p = e + 2;
+    while p < end {
+        lift(tails, e * 64, heads, p * 64, cap + 1);
+        p += 1;
+    }
+}
+
+// The tail of no slot at e: whether the gap over the wrap is allowed.
+fn wrap(task: Task, e: usize) -> u16
+    requires { ⌜ e ≤ task .wheel .n ⌝ }
+    ensures { λ r. ⌜ r ≡ orNone (leb (task .wheel .n - e) (task .limit)) 1 ⌝ }
+{
+    if task.wheel.n - e <= task.limit { 1 } else { 0 }
+}
+
+// The tails at e of 1 to `cap` slots: the best heads that the gap allows. Where the limit cuts
+// nothing, the tails at e + 1 have most of that.
+fn tails_more(tails: &mut [u16], heads: &[u16], task: Task, e: usize, cap: usize)
     requires { ⌜ Sound task ⌝ }
-    requires { do ⌜ (e + 2 ≤ task .wheel .n) × (k < 64) × ((← ⟦heads.len()⟧) ≡ 4096) × ((← ⟦tails.len()⟧) ≡ 4096) ⌝ }
-    ensures { λ r. ⌜ TailOf task (now (heads .entry)) (now (tails .entry)) e k r ⌝ }
+    requires { do ⌜ (e + 2 ≤ task .wheel .n) × (cap < 64) × ((← ⟦heads.len()⟧) ≡ 4096) × ((← ⟦tails.len()⟧) ≡ 4096) ⌝ }
+    ensures { λ _. ⌜ TailsMore task cap e (now (heads .entry)) (now (tails .entry)) (now (tails .exit)) ⌝ }
 {
     let n = task.wheel.n;
     let l = task.limit;
-    if k == 0 {
-        if n - e <= l {
-            return 1;
-        }
-        return 0;
-    }
     if n <= e + l + 1 {
         if e + 3 < n {
-            return better(heads[(e + 2) * 64 + k], tails[(e + 1) * 64 + k]);
+            carry(tails, e * 64, heads, (e + 2) * 64, cap + 1);
+            return;
         }
     }
     let end = smaller(e + l + 1, n - 1);
-    window(heads, k, e + 2, end)
-}
-
-// The most that a packet of 1 to m slots at p and the tail after it come to.
-fn packets(tails: &[u16], task: Task, p: usize, k: usize, m: usize) -> u16
-    requires { ⌜ Sound task ⌝ }
-    requires { do ⌜ (p + m ≤ 64) × (m ≤ k) × (k < 64) × ((← ⟦tails.len()⟧) ≡ 4096) ⌝ }
-    requires { ⌜ ((q : ℕ) → 1 ≤ q → q ≤ m → entry (now tails) (p + q - 1) (k - q) ≤ 4097) ⌝ }
-    ensures { λ r. ⌜ r ≡ packMost task (now (tails .entry)) p k 1 m ⌝ }
-{
-    let mut best: u16 = 0;
-    let mut words: u16 = task.wheel.s.0 - task.wheel.h.0;
-    let mut q = 1;
-    while q <= m {
-        best = better(best, raised(words, tails[(p + q - 1) * 64 + (k - q)]));
-        words = words + task.wheel.s.0;
-        q += 1;
-    }
-    best
-}
-
-// The head of k slots at p, where the f slots from p on are open.
-fn head_entry(heads: &[u16], tails: &[u16], task: Task, p: usize, f: usize, k: usize) -> u16
-    requires { ⌜ Sound task ⌝ }
-    requires { do ⌜ (p + f < 64) × (k < 64) × ((← ⟦heads.len()⟧) ≡ 4096) × ((← ⟦tails.len()⟧) ≡ 4096) ⌝ }
-    requires { ⌜ Held task (now heads) (now tails) p f k ⌝ }
-    ensures { λ r. ⌜ HeadOf task (now (heads .entry)) (now (tails .entry)) p f k r ⌝ }
-{
-    if f == 0 {
-        return 0;
-    }
-    if k == 0 {
-        return 0;
-    }
-    let period = task.wheel.p;
-    let m = smaller(period, smaller(f, k));
-    let best = packets(tails, task, p, k, m);
-    if f <= period {
-        return best;
-    }
-    if k <= period {
-        return best;
-    }
-    let v = heads[(p + period) * 64 + (k - period)];
-    better(best, raised(packet_words(task, period), v))
+    window(tails, heads, e, end, cap);
 }
 
 // The tails at e, of 0 to `cap` slots.
@@ -162,27 +184,47 @@ fn tail_row(tails: &mut [u16], heads: &[u16], task: Task, e: usize, cap: usize)
     requires { do ⌜ (e + 2 ≤ task .wheel .n) × (cap < 64) × ((← ⟦heads.len()⟧) ≡ 4096) × ((← ⟦tails.len()⟧) ≡ 4096) ⌝ }
     ensures { λ _. ⌜ TailRow task cap (cap + 1) e (now (heads .entry)) (now (tails .entry)) (now (tails .exit)) ⌝ }
 {
-    let mut k = 0;
-    while k <= cap {
-        let v = tail_entry(heads, tails, task, e, k);
-        tails[e * 64 + k] = v;
-        k += 1;
+    tails_more(tails, heads, task, e, cap);
+    tails[e * 64] = wrap(task, e);
+}
+
+// The heads at p become the most that a packet of 1 to m slots and the tail after it come to.
+fn packets(heads: &mut [u16], tails: &[u16], task: Task, p: usize, m: usize, cap: usize)
+    requires { ⌜ Sound task ⌝ }
+    requires { do ⌜ (p + m < 64) × (m ≤ cap) × (cap < 64) × ((← ⟦heads.len()⟧) ≡ 4096) × ((← ⟦tails.len()⟧) ≡ 4096) ⌝ }
+    requires { ⌜ ((q i : ℕ) → 1 ≤ q → q ≤ m → q + i ≤ cap → entry (now tails) (p + q - 1) i ≤ 4097) ⌝ }
+    ensures { λ _. ⌜ Filled (now (heads .entry)) (now (heads .exit)) (p * 64) (cap + 1) (λ k. packMost task (now (tails .entry)) p k 1 (min m k)) ⌝ }
+{
+    clear(heads, p * 64, cap + 1);
+    let mut q = 1;
+    while q <= m {
+        let after = (p + q - 1) * 64;
+        let words = packet_words(task, q);
+        raise(heads, p * 64 + q, tails, after, cap + 1 - q, words);
+        q += 1;
     }
 }
 
-// The heads at p, of 0 to `cap` slots, where the f slots from p on are open.
+// The heads at p, of 0 to `cap` slots, where the f slots from p on are open. After a full packet
+// another may follow at once.
 fn head_row(heads: &mut [u16], tails: &[u16], task: Task, p: usize, f: usize, cap: usize)
     requires { ⌜ Sound task ⌝ }
     requires { do ⌜ (p + f < 64) × (cap < 64) × ((← ⟦heads.len()⟧) ≡ 4096) × ((← ⟦tails.len()⟧) ≡ 4096) ⌝ }
     requires { ⌜ Held task (now heads) (now tails) p f cap ⌝ }
     ensures { λ _. ⌜ HeadRow task cap (cap + 1) p f (now (tails .entry)) (now (heads .entry)) (now (heads .exit)) ⌝ }
 {
-    let mut k = 0;
-    while k <= cap {
-        let v = head_entry(heads, tails, task, p, f, k);
-        heads[p * 64 + k] = v;
-        k += 1;
+    let period = task.wheel.p;
+    let m = smaller(period, smaller(f, cap));
+    packets(heads, tails, task, p, m, cap);
+    if f <= period {
+        return;
     }
+    if cap < period {
+        return;
+    }
+    let next = (p + period) * 64;
+    let words = packet_words(task, period);
+    go_on(heads, p * 64 + period, next, cap + 1 - period, words);
 }
 
 // The length of a free run that a slot is put before: one more if the slot is open, 0 if not.

@@ -1,72 +1,100 @@
--- The row is filled up to the head of k slots.
-use mathlib.Core.Path.{_≡_}
-use Prim.Native.Nat.{_+_, _-_, _≤_}
+-- The run ends with a packet of at most P slots, or goes on after a full one.
+use mathlib.Core.Logic.{inl, inr}
 use native.Mathlib.Omega.{arith}
-use lib.ListN.{length, length-set}
-use Rattle.line.specs.Rows.{HeadRow, head-row-none, head-row-more, held-now}
+use borrow.Author.Needs.{needs}
+use Rattle.line.specs.Rows.{held-tail, head-room, head-row-ends, head-row-goes-on}
 use Rattle.tables.proofs.head_row.Statement.{statement}
 use Rattle.tables.proofs.head_row.Tie as tie
 
-abbrev Inv-loop : tie.InvT-loop
-Inv-loop heads₀ tails task p f cap k₀ heads k = (k ≤ cap + 1) × (length heads ≡ 4096) × HeadRow task cap k p f tails heads₀ heads
+smaller-requires : tie.Need-smaller-requires
+smaller-requires c κs = search needs
 
-abbrev μ-loop : tie.MeasureT-loop
-μ-loop heads₀ tails task p f cap k₀ heads k = cap + 1 - k
+smaller-requires-2 : tie.Need-smaller-requires-2
+smaller-requires-2 c κs = search needs
 
-loop-holds : tie.Need-loop-holds Inv-loop μ-loop
-loop-holds c = (omega arith, omega arith, head-row-none _ _ _ _ _ _)
+packets-requires : tie.Need-packets-requires
+packets-requires c κs =
+    let st = c .before .before .before .before .before in
+    (st .pre .0, (omega arith, λ q i a b d. held-tail _ (st .pre .0) _ _ _ _ _ (st .pre .1 .1) q i a (omega arith) d))
 
-head-entry-requires : tie.Need-head-entry-requires Inv-loop μ-loop
-head-entry-requires c κs = (c .before .before .before .before .before .pre .0, (omega arith, held-now _ _ _ _ _ _ _ _ (omega arith) (omega arith) (c .before .before .loop .inv .2) (c .before .before .before .before .before .pre .1 .1)))
-
-mul-heads : tie.Need-mul-heads Inv-loop μ-loop
-mul-heads c = omega arith
-
-add-heads : tie.Need-add-heads Inv-loop μ-loop
-add-heads c = omega arith
-
-mul-heads-2 : tie.Need-mul-heads-2 Inv-loop μ-loop
-mul-heads-2 c = omega arith
-
-slice-write-heads : tie.Need-slice-write-heads Inv-loop μ-loop
-slice-write-heads c = omega arith
-
-add-k : tie.Need-add-k Inv-loop μ-loop
-add-k c = omega arith
-
-loop-less : tie.Need-loop-less Inv-loop μ-loop
-loop-less c = omega arith
-
-loop-again : tie.Need-loop-again Inv-loop μ-loop
-loop-again c =
-    let at = c .before .before .before .loop in (
-      omega arith,
-      simp length-set (at .inv .1),
-      head-row-more _ _ _ _ _ _ _ _ _ (omega arith) (omega arith) (omega arith) (at .inv .2) (c .head-entry .ensures),
-    )
-
-same-length : tie.Need-same-length Inv-loop μ-loop
+same-length : tie.Need-same-length
 same-length c = omega arith
 
-returns : tie.Need-returns Inv-loop μ-loop
+returns : tie.Need-returns
 returns c =
-    let e : c .before .loop .k ≡ c .before .before .before .before .args .cap + 1 = omega arith in
-    rw e at (c .before .loop .inv .2)
+    let packed = c .before .before .before .packets .ensures in
+    let good = c .before .before .before .before .before .before .before .before .before .pre .0 in
+    head-row-ends _ good _ _ _ _ _ _ _ (omega arith) (omega arith) packed (inl (omega arith))
+
+same-length-2 : tie.Need-same-length-2
+same-length-2 c = omega arith
+
+returns-2 : tie.Need-returns-2
+returns-2 c =
+    let packed = c .before .before .before .before .packets .ensures in
+    let good = c .before .before .before .before .before .before .before .before .before .before .pre .0 in
+    head-row-ends _ good _ _ _ _ _ _ _ (omega arith) (omega arith) packed (inr (omega arith))
+
+add-next : tie.Need-add-next
+add-next c = omega arith
+
+mul-next : tie.Need-mul-next
+mul-next c = omega arith
+
+packet-words-requires : tie.Need-packet-words-requires
+packet-words-requires c κs =
+    let good = c .before .before .before .before .before .before .before .before .before .before .pre .0 in
+    (good, (good .legal .p1, good .legal .p64))
+
+mul-go-on : tie.Need-mul-go-on
+mul-go-on c = omega arith
+
+add-go-on : tie.Need-add-go-on
+add-go-on c = omega arith
+
+add-go-on-2 : tie.Need-add-go-on-2
+add-go-on-2 c = omega arith
+
+sub-go-on : tie.Need-sub-go-on
+sub-go-on c = omega arith
+
+go-on-requires : tie.Need-go-on-requires
+go-on-requires c κs =
+    let st = c .before .before .before .before .before .before .before .before .before .before .before .before in
+    let packed = c .before .before .before .before .before .before .packets .ensures in
+    let words = c .before .packet-words .ensures in (
+      omega (arith, st .pre .0 .legal .p1),
+      head-room _ (st .pre .0) _ _ _ _ _ _ _ (omega arith) (omega arith) packed (st .pre .1 .1) (omega arith) _ words,
+    )
+
+same-length-3 : tie.Need-same-length-3
+same-length-3 c = omega arith
+
+returns-3 : tie.Need-returns-3
+returns-3 c =
+    let good = c .before .before .before .before .before .before .before .before .before .before .before .before .before .before .before .pre .0 in
+    let packed = c .before .before .before .before .before .before .before .before .before .packets .ensures in
+    head-row-goes-on _ good _ _ _ _ _ _ _ (omega arith) (omega arith) packed _ _ (omega arith) (omega arith)
+    (c .before .before .before .before .packet-words .ensures) (c .before .before .go-on .ensures)
 
 pub head-row-spec : {M : Type 1} → statement M
 head-row-spec =
     tie.close
     (tie.spec
-    Inv-loop
-    μ-loop
-    loop-holds
-    head-entry-requires
-    mul-heads
-    add-heads
-    mul-heads-2
-    slice-write-heads
-    add-k
-    loop-less
-    loop-again
+    smaller-requires
+    smaller-requires-2
+    packets-requires
     same-length
-    returns)
+    returns
+    same-length-2
+    returns-2
+    add-next
+    mul-next
+    packet-words-requires
+    mul-go-on
+    add-go-on
+    add-go-on-2
+    sub-go-on
+    go-on-requires
+    same-length-3
+    returns-3)

@@ -1,65 +1,66 @@
--- The best so far and the best of the longer packets make the best of all; a packet of one slot more has S words more.
-use mathlib.Core.Path.{_≡_, ap}
-use Prim.Native.Nat.{_+_, _-_, _*_, _≤_, max}
-use native.Mathlib.Nat.{mul-le-mul-right}
+-- The row has what the packets of fewer than q slots come to.
+use mathlib.Core.Path.{_≡_, _∙_}
+use Prim.Native.Nat.{_+_, _-_, _*_, _≤_, min}
 use native.Mathlib.Omega.{arith}
 use borrow.Author.Needs.{needs}
-use denote.Ref.{now}
-use Rattle.line.specs.Values.{S, raised}
-use Rattle.line.specs.Packets.{packetWords}
-use Rattle.line.specs.Tables.{entry, packMost, pack-step, pack-none}
+use lib.ListN.{length}
+use Rattle.line.specs.Tables.{packMost}
+use Rattle.line.specs.Rows.{Filled, filled-then, packets-none, packets-more, words-room}
 use Rattle.tables.proofs.packets.Statement.{statement}
 use Rattle.tables.proofs.packets.Tie as tie
 
 abbrev Inv-loop : tie.InvT-loop
-Inv-loop tails task p k m best₀ words₀ q₀ best words q = (1 ≤ q) × (q ≤ m + 1) × (words ≡ packetWords task q) × (max best (packMost task tails p k q (m + 1 - q)) ≡ packMost task tails p k 1 m)
+Inv-loop heads₀ tails task p m cap q₀ heads q = (1 ≤ q) × (q ≤ m + 1) × (length heads ≡ 4096) × Filled heads₀ heads (p * 64) (cap + 1) (λ k. packMost task tails p k 1 (min (q - 1) k))
 
 abbrev μ-loop : tie.MeasureT-loop
-μ-loop tails task p k m best₀ words₀ q₀ best words q = m + 1 - q
+μ-loop heads₀ tails task p m cap q₀ heads q = m + 1 - q
 
-sub-words : tie.Need-sub-words Inv-loop μ-loop
-sub-words c = omega (arith, c .before .before .pre .0 .legal .h)
+mul-clear : tie.Need-mul-clear Inv-loop μ-loop
+mul-clear c = omega arith
+
+add-clear : tie.Need-add-clear Inv-loop μ-loop
+add-clear c = omega arith
+
+clear-requires : tie.Need-clear-requires Inv-loop μ-loop
+clear-requires c κs = search needs
 
 loop-holds : tie.Need-loop-holds Inv-loop μ-loop
-loop-holds c =
-    let e : c .before .before .args .m + 1 - 1 ≡ c .before .before .args .m = omega arith in
-    (omega arith, omega arith, omega arith, rw e (omega arith))
+loop-holds c = (omega arith, omega arith, omega arith, packets-none _ _ _ _ _ _ (c .before .before .clear .ensures))
 
-add-raised : tie.Need-add-raised Inv-loop μ-loop
-add-raised c = omega arith
+add-after : tie.Need-add-after Inv-loop μ-loop
+add-after c = omega arith
 
-sub-raised : tie.Need-sub-raised Inv-loop μ-loop
-sub-raised c = omega arith
+sub-after : tie.Need-sub-after Inv-loop μ-loop
+sub-after c = omega arith
 
-mul-raised : tie.Need-mul-raised Inv-loop μ-loop
-mul-raised c = omega arith
+mul-after : tie.Need-mul-after Inv-loop μ-loop
+mul-after c = omega arith
 
-sub-raised-2 : tie.Need-sub-raised-2 Inv-loop μ-loop
-sub-raised-2 c = omega arith
+packet-words-requires : tie.Need-packet-words-requires Inv-loop μ-loop
+packet-words-requires c κs = (c .before .before .before .before .before .before .before .before .pre .0, omega arith)
 
-add-raised-2 : tie.Need-add-raised-2 Inv-loop μ-loop
-add-raised-2 c = omega arith
+mul-raise : tie.Need-mul-raise Inv-loop μ-loop
+mul-raise c = omega arith
 
-mul-raised-2 : tie.Need-mul-raised-2 Inv-loop μ-loop
-mul-raised-2 c = omega arith
+add-raise : tie.Need-add-raise Inv-loop μ-loop
+add-raise c = omega arith
 
-shared-slice-read-raised : tie.Need-shared-slice-read-raised Inv-loop μ-loop
-shared-slice-read-raised c = omega arith
+add-raise-2 : tie.Need-add-raise-2 Inv-loop μ-loop
+add-raise-2 c = omega arith
 
-raised-requires : tie.Need-raised-requires Inv-loop μ-loop
-raised-requires c κs =
-    let s = S (c .before .before .before .before .before .args .task) in
-    let most : c .before .before .loop .q * s ≤ 65 * s = mul-le-mul-right s (omega arith) in
-    omega (arith, c .before .before .before .before .before .pre .1 .1 (c .before .before .loop .q) (omega arith) (omega arith), c .before .before .before .before .before .pre .0 .legal .s64)
+sub-raise : tie.Need-sub-raise Inv-loop μ-loop
+sub-raise c = omega arith
 
-better-requires : tie.Need-better-requires Inv-loop μ-loop
-better-requires c κs = search needs
-
-add-words : tie.Need-add-words Inv-loop μ-loop
-add-words c =
-    let s = S (c .before .before .before .before .before .before .before .before .args .task) in
-    let most : c .before .before .before .before .before .loop .q * s ≤ 65 * s = mul-le-mul-right s (omega arith) in
-    omega (arith, c .before .before .before .before .before .before .before .before .pre .0 .legal .s64)
+raise-requires : tie.Need-raise-requires Inv-loop μ-loop
+raise-requires c κs =
+    let st = c .before .before .before .before .before .before .before .before .before .before in
+    let q = c .before .before .before .loop .q in
+    let words = c .before .packet-words .ensures in (
+      omega arith,
+      λ i l.
+          let value = st .pre .1 .1 q i (omega arith) (omega arith) (omega arith) in
+          omega (arith, words-room (st .args .task) q _ (st .pre .0) (omega arith) value),
+    )
 
 add-q : tie.Need-add-q Inv-loop μ-loop
 add-q c = omega arith
@@ -69,21 +70,23 @@ loop-less c = omega arith
 
 loop-again : tie.Need-loop-again Inv-loop μ-loop
 loop-again c =
-    let a = c .before .before .before .before .before .before .before .before .args in
-    let at = c .before .before .before .before .before .loop in
-    let least : 1 * S (a .task) ≤ at .q * S (a .task) = mul-le-mul-right (S (a .task)) (omega arith) in
-    let e = ap (λ v. raised v (entry (now (a .tails)) (a .p + at .q - 1) (a .k - at .q))) (at .inv .2) in (
+    let at = c .before .before .before .before .before .before .loop in
+    let words = c .before .before .before .before .packet-words .ensures in
+    let raise = c .before .before .raise in (
       omega arith,
       omega arith,
-      omega (arith, c .before .before .before .before .before .before .before .before .pre .0 .legal .h),
-      omega (arith, pack-step (a .task) (now (a .tails)) (a .p) (a .k) (at .q) (a .m) (omega arith), c .before .before .raised .ensures),
+      raise .kept .0 ∙ at .inv .2,
+      packets-more _ _ _ _ _ _ _ _ _ (at .inv .0) (omega arith) words (at .inv .3) (raise .ensures),
     )
+
+same-length : tie.Need-same-length Inv-loop μ-loop
+same-length c = omega arith
 
 returns : tie.Need-returns Inv-loop μ-loop
 returns c =
-    let a = c .before .before .before .before .args in
     let at = c .before .loop in
-    omega (arith, pack-none (a .task) (now (a .tails)) (a .p) (a .k) (at .q) (a .m) (omega arith))
+    let all : at .q - 1 ≡ c .before .before .before .before .before .before .before .before .args .m = omega arith in
+    rw all at (filled-then _ _ _ _ _ _ _ (c .before .before .before .before .clear .ensures) (at .inv .3))
 
 pub packets-spec : {M : Type 1} → statement M
 packets-spec =
@@ -91,19 +94,21 @@ packets-spec =
     (tie.spec
     Inv-loop
     μ-loop
-    sub-words
+    mul-clear
+    add-clear
+    clear-requires
     loop-holds
-    add-raised
-    sub-raised
-    mul-raised
-    sub-raised-2
-    add-raised-2
-    mul-raised-2
-    shared-slice-read-raised
-    raised-requires
-    better-requires
-    add-words
+    add-after
+    sub-after
+    mul-after
+    packet-words-requires
+    mul-raise
+    add-raise
+    add-raise-2
+    sub-raise
+    raise-requires
     add-q
     loop-less
     loop-again
+    same-length
     returns)

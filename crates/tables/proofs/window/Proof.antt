@@ -1,53 +1,68 @@
--- The best so far and the best of the positions still ahead make the best of all.
-use mathlib.Core.Path.{_≡_}
-use Prim.Native.Nat.{_-_, max}
+-- The row has the best heads of the positions before p.
+use mathlib.Core.Path.{_≡_, _∙_}
+use Prim.Native.Nat.{_+_, _-_, _*_, _≤_, max}
 use native.Mathlib.Omega.{arith}
 use borrow.Author.Needs.{needs}
-use denote.Ref.{now}
-use Rattle.line.specs.Tables.{mostOf, most-step, most-none}
+use lib.ListN.{length}
+use Rattle.line.specs.Tables.{mostOf}
+use Rattle.line.specs.Rows.{Filled, filled-then, window-none, window-more}
 use Rattle.tables.proofs.window.Statement.{statement}
 use Rattle.tables.proofs.window.Tie as tie
 
 abbrev Inv-loop : tie.InvT-loop
-Inv-loop heads k from end best₀ p₀ best p = max best (mostOf heads k p (end - p)) ≡ mostOf heads k from (end - from)
+Inv-loop tails₀ heads e end cap p₀ tails p = (e + 2 ≤ p) × (p ≤ max end (e + 2)) × (length tails ≡ 4096) × Filled tails₀ tails (e * 64) (cap + 1) (λ k. mostOf heads k (e + 2) (p - (e + 2)))
 
 abbrev μ-loop : tie.MeasureT-loop
-μ-loop heads k from end best₀ p₀ best p = end - p
+μ-loop tails₀ heads e end cap p₀ tails p = end - p
 
-loop-holds : tie.Need-loop-holds Inv-loop μ-loop
-loop-holds c = omega arith
+mul-clear : tie.Need-mul-clear Inv-loop μ-loop
+mul-clear c = omega arith
 
-mul-better : tie.Need-mul-better Inv-loop μ-loop
-mul-better c = omega arith
+add-clear : tie.Need-add-clear Inv-loop μ-loop
+add-clear c = omega arith
 
-add-better : tie.Need-add-better Inv-loop μ-loop
-add-better c = omega arith
-
-mul-better-2 : tie.Need-mul-better-2 Inv-loop μ-loop
-mul-better-2 c = omega arith
-
-shared-slice-read-better : tie.Need-shared-slice-read-better Inv-loop μ-loop
-shared-slice-read-better c = omega arith
-
-better-requires : tie.Need-better-requires Inv-loop μ-loop
-better-requires c κs = search needs
+clear-requires : tie.Need-clear-requires Inv-loop μ-loop
+clear-requires c κs = search needs
 
 add-p : tie.Need-add-p Inv-loop μ-loop
 add-p c = omega arith
+
+loop-holds : tie.Need-loop-holds Inv-loop μ-loop
+loop-holds c = (omega arith, omega arith, omega arith, window-none _ _ _ _ _ (c .before .before .clear .ensures))
+
+mul-lift : tie.Need-mul-lift Inv-loop μ-loop
+mul-lift c = omega arith
+
+mul-lift-2 : tie.Need-mul-lift-2 Inv-loop μ-loop
+mul-lift-2 c = omega arith
+
+add-lift : tie.Need-add-lift Inv-loop μ-loop
+add-lift c = omega arith
+
+lift-requires : tie.Need-lift-requires Inv-loop μ-loop
+lift-requires c κs = search needs
+
+add-p-2 : tie.Need-add-p-2 Inv-loop μ-loop
+add-p-2 c = omega arith
 
 loop-less : tie.Need-loop-less Inv-loop μ-loop
 loop-less c = omega arith
 
 loop-again : tie.Need-loop-again Inv-loop μ-loop
 loop-again c =
-    let a = c .before .before .before .before .before .args in
-    let at = c .before .before .before .loop in
-    omega (arith, most-step (now (a .heads)) (a .k) (at .p) (a .end) (omega arith))
+    let at = c .before .before .before .before .before .loop in
+    let lift = c .before .before .lift in
+    (omega arith, omega arith, lift .kept .0 ∙ at .inv .2, window-more _ _ _ _ _ _ _ _ (at .inv .0) (at .inv .3) (lift .ensures))
+
+same-length : tie.Need-same-length Inv-loop μ-loop
+same-length c = omega arith
 
 returns : tie.Need-returns Inv-loop μ-loop
 returns c =
-    let a = c .before .before .before .args in
-    omega (arith, most-none (now (a .heads)) (a .k) (c .before .loop .p) (a .end) (omega arith))
+    let a = c .before .before .before .before .before .before .before .before .args in
+    let at = c .before .loop in
+    let all : at .p - (a .e + 2) ≡ a .end - (a .e + 2) = omega arith in
+    rw all at (filled-then _ _ _ _ _ _ _ (c .before .before .before .before .clear .ensures) (at .inv .3))
 
 pub window-spec : {M : Type 1} → statement M
 window-spec =
@@ -55,13 +70,17 @@ window-spec =
     (tie.spec
     Inv-loop
     μ-loop
-    loop-holds
-    mul-better
-    add-better
-    mul-better-2
-    shared-slice-read-better
-    better-requires
+    mul-clear
+    add-clear
+    clear-requires
     add-p
+    loop-holds
+    mul-lift
+    mul-lift-2
+    add-lift
+    lift-requires
+    add-p-2
     loop-less
     loop-again
+    same-length
     returns)
