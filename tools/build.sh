@@ -76,8 +76,8 @@ progress() { # LOG BEGAN COUNT
 
 # Ends the build with all that it has started: rt's own jobs do not hear the terminal's Ctrl-C.
 halt() {
-    kill -TERM -- "-$job" 2> /dev/null || true
-    wait "$job" 2> /dev/null || true
+    [ -z "$job" ] || kill -TERM -- "-$job" 2> /dev/null || true
+    [ -z "$job" ] || wait "$job" 2> /dev/null || true
     wipe
 }
 
@@ -91,7 +91,7 @@ ended_by() { # SIGNAL
 }
 
 build() { # KIND NAME
-    local kind=$1 name=$2 what="the program $2" from=$top/target/bin/$2 began=$SECONDS status=0 signal bad='' last='' job crates
+    local kind=$1 name=$2 what="the program $2" from=$top/target/bin/$2 began=$SECONDS status=0 runs=1 bad='' last='' job='' signal crates
     local -A proved=()
     [ "$kind" = program ] || what="the archive lib$2.a" from=$top/target/staticlib/lib$2.a
     built=$top/target/built/${from##*/}
@@ -105,22 +105,23 @@ build() { # KIND NAME
     rm -f "$built" "$mark"
     [ "$kind" = program ] || rm -f "$from" # rt keeps an old archive where the proof fails, and builds it anew where it does not
     rt version > "$mark.new" # what changes from here on is newer
-    set -m
-    prove "$kind" "$name" "${crates[@]}" > "$log" 2>&1 < /dev/null &
-    job=$!
-    set +m
     trap halt EXIT
     for signal in HUP INT TERM; do
         # shellcheck disable=SC2064
         trap "ended_by $signal" "$signal"
     done
-    while kill -0 "$job" 2> /dev/null && [ -z "$bad" ]; do
+    set -m
+    prove "$kind" "$name" "${crates[@]}" > "$log" 2>&1 < /dev/null &
+    job=$!
+    set +m
+    while [ -n "$runs" ] && [ -z "$bad" ]; do
         sleep 0.5
+        kill -0 "$job" 2> /dev/null || runs='' # and then the log is read once more
         progress "$log" "$began" "${#crates[@]}"
-        bad=$(sed -n 's/^rt: \([A-Za-z0-9_]*\) NOT PROVED.*/\1/p;' "$log" | head -1)
+        bad=$(awk '/^rt: [A-Za-z0-9_]+ NOT PROVED/ { print $2; exit }' "$log")
     done
-    if [ -n "$bad" ]; then
-        halt
+    if [ -n "$runs" ]; then
+        halt # a crate is not proved, and the others need not be tried
     else
         wait "$job" || status=$?
         wipe
