@@ -10,44 +10,33 @@ use native.Mathlib.Nat.{eq-or-lt-of-le}
 use Rattle.rules.specs.declared.Record.{Record}
 use Rattle.rules.specs.Tells.{Tells}
 use Rattle.rules.specs.Sets.{sum}
-use Rattle.rules.specs.Wheels.{Legal}
 use Rattle.rules.specs.Paths.{Chip, cell}
-use Rattle.rules.specs.Flows.{flow, Own, takes, cellsOf, heldCells, Agree}
-use Rattle.rules.specs.Orders.{Tabled, Listed}
+use Rattle.rules.specs.Flows.{flow, Own, takes, cellsOf, heldCells}
+use Rattle.rules.specs.Orders.{Ready, Agrees}
 use Rattle.laws.specs.Logic.{not-both}
 use Rattle.laws.specs.Counting.{sum-more}
 use Rattle.ledger.specs.Totals.{usedCells, agree-counted, counted-agree}
 use Rattle.agree.specs.declared.Checked.{Checked}
-
--- wheel, table length and list length are good
-pub record Ready (chip : Chip) (t : List ℕ) (n : ℕ) : Type 0 where
-  pub legal : Legal (chip .wheel)
-  pub tabled : Tabled chip t
-  pub listed : Listed n
-
--- what `agree` tells: all is good, and table and list agree
-pub record Agrees (chip : Chip) (t : List ℕ) (n : ℕ) (list : List Record) : Type 0 where
-  pub ready : Ready chip t n
-  pub agree : Agree chip t n list
 
 -- the record r, number f counted from 0, is in order
 pub record Ordered (chip : Chip) (t : List ℕ) (f : ℕ) (r : Record) : Type 0 where
   pub own : Own chip (r .state) r
   pub held : (c j : ℕ) → takes chip r c j ≡ true → cell t c j ≡ f + 1
 
--- one step: the check before and after the record r
+-- one step: the check before and after the record r; a check that was given up before stays as it is
 pub record Steps (chip : Chip) (t : List ℕ) (f : ℕ) (r : Record) (before after : Checked) : Type 0 where
   pub small : after .held ≤ before .held + 1024
-  pub yes : after .ok ≡ true → (before .ok ≡ true) × Ordered chip t f r × (after .held ≡ before .held + cellsOf chip r)
-  pub no : after .ok ≡ false → before .ok ≡ true → ¬ Ordered chip t f r
+  pub yes : after .ok ≡ true → (before .ok ≡ true) × Ordered chip t f r × (after .held ≡ before .held + cellsOf (chip .wheel) r)
+  pub no : after .ok ≡ false → before .ok ≡ true → (¬ Ordered chip t f r) × (after .held ≡ 0)
+  pub over : before .ok ≡ false → after ≡ before
 
 -- the check of the records below f, of n in all
 pub record Checks (chip : Chip) (t : List ℕ) (n : ℕ) (list : List Record) (f : ℕ) (c : Checked) : Type 0 where
   pub small : c .held ≤ 1024 * f
   pub ready : c .ok ≡ true → Ready chip t n
   pub ordered : c .ok ≡ true → (g : ℕ) → g < f → Ordered chip t g (flow list g)
-  pub held : c .ok ≡ true → c .held ≡ heldCells chip f list
-  pub no : c .ok ≡ false → ¬ Agrees chip t n list
+  pub held : c .ok ≡ true → c .held ≡ heldCells (chip .wheel) f list
+  pub no : c .ok ≡ false → (¬ Agrees chip t n list) × (c .held ≡ 0)
 
 module _ (chip : Chip) (t : List ℕ) (n : ℕ) (list : List Record) where
   -- no record is checked yet
@@ -59,7 +48,7 @@ module _ (chip : Chip) (t : List ℕ) (n : ℕ) (list : List Record) where
         ready = tells .yes;
         ordered = λ e g l. absurd (omega arith);
         held = λ e. h;
-        no = λ e a. tells .no e (a .ready);
+        no = λ e. (λ a. tells .no e (a .ready), h);
       }
 
   -- a check that was given up says no for all records
@@ -81,17 +70,20 @@ module _ (chip : Chip) (t : List ℕ) (n : ℕ) (list : List Record) where
         small = omega (arith, k .small, s .small);
         ready = λ e. k .ready (s .yes e .0);
         ordered = λ e g h. below e g (eq-or-lt-of-le h);
-        held = λ e. s .yes e .2 ∙ ap (λ v. v + cellsOf chip (flow list f)) (k .held (s .yes e .0)) ∙ sym (sum-more (λ g. cellsOf chip (flow list g)) f);
-        no = λ e a. refused e a (c .ok) refl;
+        held = λ e. s .yes e .2 ∙ ap (λ v. v + cellsOf (chip .wheel) (flow list f)) (k .held (s .yes e .0))
+            ∙ sym (sum-more (λ g. cellsOf (chip .wheel) (flow list g)) f);
+        no = λ e. refused e (c .ok) refl;
       }
     where
       below : d .ok ≡ true → (g : ℕ) → (suc g ≡ f + 1) ⊎ (suc g < f + 1) → Ordered chip t g (flow list g)
       below e g (inl q) = let z : g ≡ f = omega arith in rw z (s .yes e .1)
       below e g (inr q) = k .ordered (s .yes e .0) g (omega arith)
 
-      refused : d .ok ≡ false → Agrees chip t n list → (b : Bool) → c .ok ≡ b → ⊥
-      refused e a true q = s .no e q (record { own = a .agree .own f l; held = λ x j h. a .agree .held f x j l h })
-      refused e a false q = k .no q a
+      refused : d .ok ≡ false → (b : Bool) → c .ok ≡ b → (¬ Agrees chip t n list) × (d .held ≡ 0)
+      refused e true q =
+          let (broken, none) = s .no e q in
+          (λ a. broken (record { own = a .agree .own f l; held = λ x j h. a .agree .held f x j l h }), none)
+      refused e false q = let (broken, none) = k .no q in (broken, ap (λ x. x .held) (s .over q) ∙ none)
 
   -- all records are checked
   pub checks-all : (f : ℕ) (c : Checked) → f ≡ n → Checks chip t n list f c → Checks chip t n list n c
@@ -121,4 +113,4 @@ module _ (chip : Chip) (t : List ℕ) (n : ℕ) (list : List Record) where
     where
       go : r ≡ false → Agrees chip t n list → (b : Bool) → c .ok ≡ b → ⊥
       go e a true q = settled-no c k q (λ u. told .no e (q, u)) a
-      go e a false q = k .no q a
+      go e a false q = k .no q .0 a

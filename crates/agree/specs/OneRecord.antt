@@ -10,20 +10,13 @@ use Rattle.rules.specs.declared.State.the-variants.{Closed, Open}
 use Rattle.rules.specs.declared.Record.{Record}
 use Rattle.rules.specs.Paths.{Chip, cell, claims}
 use Rattle.rules.specs.Flows.{claiming, Own, takes, cellsOf}
-use Rattle.rules.specs.Orders.{Tabled}
 use Rattle.laws.specs.Logic.{not-both, and-true}
 use Rattle.ledger.specs.Claims.{takes-claims, claim-found}
-use Rattle.table.specs.Rows.{Holds, Walkable}
+use Rattle.table.specs.Along.{Holds}
 use Rattle.agree.specs.declared.Checked.{Checked}
 use Rattle.agree.specs.Checks.{Ordered, Steps}
 
 module _ (chip : Chip) (r : Record) where
-  pub own-walkable : (t : List ℕ) (s : State) → Own chip s r → Tabled chip t → Walkable chip t (r .path) (r .len)
-  unfolding Own
-  own-walkable t Closed own tabled =
-      record { fits = omega (arith, own .len); rows = tabled .long; inside = record { at = λ i h. absurd (omega (arith, own .len)) } }
-  own-walkable t (Open d) own tabled = record { fits = own .fits; rows = tabled .long; inside = own .inside }
-
   module _ (t : List ℕ) (f : ℕ) (own : Own chip (r .state) r) where
     pub held-ordered : Holds chip t (r .path) (r .len) (r .slots) (f + 1) → Ordered chip t f r
     unfolding takes
@@ -40,12 +33,18 @@ module _ (chip : Chip) (r : Record) where
 
 module _ (chip : Chip) (t : List ℕ) (f : ℕ) (r : Record) (known : Checked) where
   pub given-up : known .ok ≡ false → Steps chip t f r known known
-  given-up e = record { small = omega arith; yes = λ q. absurd (not-both q e); no = λ _ q. absurd (not-both q e) }
+  given-up e = record { small = omega arith; yes = λ q. absurd (not-both q e); no = λ _ q. absurd (not-both q e); over = λ _. refl }
 
   module _ (ok : known .ok ≡ true) where
     pub not-in-order : ¬ Ordered chip t f r → Steps chip t f r known (record { ok = false; held = 0 })
-    not-in-order n = record { small = omega arith; yes = λ q. absurd (not-both refl (sym q)); no = λ _ _. n }
+    not-in-order n =
+        record { small = omega arith; yes = λ q. absurd (not-both refl (sym q)); no = λ _ _. (n, refl); over = λ q. absurd (not-both ok q) }
 
-    pub in-order : (k : ℕ) → k ≡ cellsOf chip r → k ≤ 1024 → Ordered chip t f r → Steps chip t f r known (record { ok = true; held = known .held + k })
+    pub in-order : (k : ℕ) → k ≡ cellsOf (chip .wheel) r → k ≤ 1024 → Ordered chip t f r → Steps chip t f r known (record { ok = true; held = known .held + k })
     in-order k e few o =
-        record { small = omega arith; yes = λ q. (ok, o, ap (λ v. known .held + v) e); no = λ q. absurd (not-both refl q) }
+        record {
+          small = omega arith;
+          yes = λ q. (ok, o, ap (λ v. known .held + v) e);
+          no = λ q. absurd (not-both refl q);
+          over = λ q. absurd (not-both ok q);
+        }

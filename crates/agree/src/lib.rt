@@ -7,12 +7,12 @@ ghost use mathlib.Core.Bool.{true};
 ghost use Prim.Native.Nat.{_*_, _≤_, _<_};
 ghost use Rattle.rules.specs.Tells.{Tells};
 ghost use Rattle.rules.specs.Wheels.{Legal};
-ghost use Rattle.rules.specs.Paths.{chipOf};
 ghost use Rattle.rules.specs.Orders.{Tabled};
 ghost use Rattle.ledger.specs.Totals.{usedCells};
-ghost use Rattle.agree.specs.Checks.{Ready, Steps, Checks};
+ghost use Rattle.rules.specs.Orders.{Ready};
+ghost use Rattle.agree.specs.Checks.{Steps};
+use rules::Chip;
 use rules::Record;
-use rules::Wheel;
 
 // What the check has found so far: whether all is well, and how many cells the records claim.
 pub struct Checked {
@@ -21,13 +21,14 @@ pub struct Checked {
 }
 
 // The check before the first of n records: are wheel, table length and list length good?
-pub fn begin(table: &[u8], w: Wheel, n: usize) -> Checked
-    ensures { λ c. ⌜ Tells (c .ok) (Ready (chipOf w (now (table .entry))) (now (table .entry)) n) × (c .held ≡ 0) ⌝ }
+pub fn begin(table: &[u8], chip: Chip, n: usize) -> Checked
+    ensures { λ c. ⌜ Tells (c .ok) (Ready chip (now (table .entry)) n) × (c .held ≡ 0) ⌝ }
 {
+    let w = chip.wheel;
     if !measure::legal(w) {
         return Checked { ok: false, held: 0 };
     }
-    if !table::is_table(table) {
+    if !table::is_table(table, chip) {
         return Checked { ok: false, held: 0 };
     }
     if n < 1 {
@@ -40,24 +41,24 @@ pub fn begin(table: &[u8], w: Wheel, n: usize) -> Checked
 }
 
 // The check with the record r, number f counted from 0, taken into account.
-pub fn step(table: &[u8], w: Wheel, known: Checked, r: Record, f: usize) -> Checked
-    requires { ⌜ (known .ok ≡ true → Legal w × Tabled (chipOf w (now table)) (now table)) ⌝ }
+pub fn step(table: &[u8], chip: Chip, known: Checked, r: Record, f: usize) -> Checked
+    requires { ⌜ (known .ok ≡ true → Legal (chip .wheel) × Tabled (chip .channels) (now table)) ⌝ }
     requires { ⌜ (f < 64) × (known .held ≤ 1024 * f) ⌝ }
-    ensures { λ c. ⌜ Steps (chipOf w (now (table .entry))) (now (table .entry)) f r known c ⌝ }
+    ensures { λ c. ⌜ Steps chip (now (table .entry)) f r known c ⌝ }
 {
     if !known.ok {
         return known;
     }
-    let channels = table.len() / 64;
-    if !flows::own(w, channels, r) {
+    if !flows::own(chip, r) {
         return Checked { ok: false, held: 0 };
     }
     let path = r.path;
     let len = r.len;
     let v = (f + 1) as u8;
-    if !table::holds(table, w, path, len, r.slots, v) {
+    if !table::holds(table, chip, path, len, r.slots, v) {
         return Checked { ok: false, held: 0 };
     }
+    let w = chip.wheel;
     let cells = flows::cells_of(w, r);
     Checked {
         ok: true,
@@ -73,21 +74,4 @@ pub fn settle(table: &[u8], c: Checked) -> bool
         return false;
     }
     table::count_used(table) == c.held
-}
-
-// The check of the first n records of a list.
-pub fn check(table: &[u8], w: Wheel, list: [Record; 64], n: usize) -> Checked
-    ensures { λ c. ⌜ Checks (chipOf w (now (table .entry))) (now (table .entry)) n list n c ⌝ }
-{
-    let mut c = begin(table, w, n);
-    if !c.ok {
-        return c;
-    }
-    let mut f = 0;
-    while f < n {
-        let r = list[f];
-        c = step(table, w, c, r, f);
-        f += 1;
-    }
-    c
 }

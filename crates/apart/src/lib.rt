@@ -31,7 +31,7 @@ pub fn cut(x: u64, n: u64) -> u64 {
 }
 
 // Whether slot i is in the set x.
-fn chosen(x: u64, i: u64) -> bool {
+pub fn chosen(x: u64, i: u64) -> bool {
     if 64 <= i {
         return false;
     }
@@ -311,7 +311,7 @@ fn best_of(n: u64, s: u64, h: u64, p: u64, free: u64, wanted: u64, limit: u64) -
 }
 
 // A refusal.
-fn refused(no: u64) -> Found {
+pub fn refused(no: u64) -> Found {
     Found {
         no: no,
         slots: 0,
@@ -321,7 +321,7 @@ fn refused(no: u64) -> Found {
 }
 
 // The refusal that is given before any set is looked at, 1, 15, 11 or 12; 0 for none.
-fn unasked(n: u64, s: u64, h: u64, p: u64, free: u64, wanted: u64, limit: u64) -> u64 {
+pub fn unasked(n: u64, s: u64, h: u64, p: u64, free: u64, wanted: u64, limit: u64) -> u64 {
     if !fits(n, s, h, p) {
         return 1;
     }

@@ -1,5 +1,5 @@
--- What opening and closing promise of a list that is lent as bytes: document 01's answer for the list that the bytes stand
--- for, before and after, and every byte of it: a grant writes one record, a refusal nothing.
+-- What the calls promise of a list that is lent as bytes: document 01's answer for the list that the bytes stand for, before
+-- and after, and every byte of it: a grant writes one record, a refusal nothing.
 use mathlib.Core.Path.{_≡_, refl, sym, ap, subst, _∙_}
 use mathlib.Core.Bool.{Bool, true, false, cond}
 use mathlib.Core.List.{List}
@@ -8,31 +8,40 @@ use Prim.Native.Nat.{ℕ, _+_, _-_, _*_, _≤_, _<_}
 use native.Mathlib.Omega.{arith}
 use lib.ListN.{length, set}
 use Rattle.rules.specs.declared.Demand.{Demand}
-use Rattle.rules.specs.declared.State.{State}
 use Rattle.rules.specs.declared.Record.{Record}
 use Rattle.rules.specs.declared.Grant.{Grant}
+use Rattle.rules.specs.declared.Call.{Call}
+use Rattle.rules.specs.declared.Verb.{Verb}
+use Rattle.rules.specs.declared.Verb.the-variants.{ToOpen, ToClose}
+use Rattle.rules.specs.declared.Yes.{Yes}
+use Rattle.rules.specs.declared.Yes.the-variants as yes
+use Rattle.rules.specs.declared.Answer.{Answer}
+use Rattle.rules.specs.declared.Answer.the-variants as answer
 use Rattle.rules.specs.declared.Opened.{Opened}
-use Rattle.rules.specs.declared.Opened.the-variants as opened
 use Rattle.rules.specs.declared.Cleared.{Cleared}
-use Rattle.rules.specs.declared.Cleared.the-variants as cleared
 use Rattle.rules.specs.declared.Reported.{Reported}
 use Rattle.rules.specs.Tells.{Tells}
 use Rattle.rules.specs.Sets.{Below}
-use Rattle.rules.specs.Paths.{Chip, allowed, freeSlots}
+use Rattle.rules.specs.Paths.{Chip, freeSlots}
 use Rattle.rules.specs.Flows.{flow}
-use Rattle.rules.specs.Promises.{Grants, trimmed, openRecord, closedRecord, Opens, Closes}
+use Rattle.rules.specs.Numbers.{Passes}
+use Rattle.rules.specs.Orders.{Agrees, checked, orderOf, opening, closing}
+use Rattle.rules.specs.Promises.{Grants, closedRecord, openRecord, change, Told, Performs, ofOpened, ofCleared, Reports}
 use Rattle.laws.specs.Logic.{not-both}
+use Rattle.laws.specs.Refusals.{passes-front}
 use Rattle.laws.specs.Sets.{within-below, below-shift, below-small}
+use Rattle.ledger.specs.Trimmed.{trimmed-long}
 use Rattle.ledger.specs.Claims.{free-below}
+use Rattle.ledger.specs.Lines.{checked-ready, saw}
+use Rattle.ledger.specs.Calls.{toOpened, toCleared}
 use Rattle.agree.specs.declared.Checked.{Checked}
-use Rattle.agree.specs.Checks.{Agrees, Steps, Checks, checks-more}
-use Rattle.core.specs.declared.Opening.{Opening}
-use Rattle.core.specs.declared.Closing.{Closing}
-use Rattle.core.specs.Pieces.{DecidesPath, DecidesOpen, WritesOpen, OpensOne, DecidesClose, WritesClose, ClosesOne, ReportsOne}
-use Rattle.core.specs.Joined.{opens-joined, closes-joined}
-use Rattle.core.specs.ByValue.{RecordOf, opening-at, closing-at}
+use Rattle.agree.specs.Checks.{Steps, Checks, checks-more}
+use Rattle.decide.specs.Decisions.{Settles, Decides}
+use Rattle.perform.specs.declared.Decision.{Decision}
+use Rattle.changes.specs.Changes.{changeOf}
+use Rattle.perform.specs.Performed.{isDone, PerformsOne}
+use Rattle.perform.specs.Joined.{RecordOf, stored-at, performs-joined}
 use Rattle.bytes_list.specs.Layout.{countOf, decoded, listIn, Written}
-use Rattle.bytes_list.specs.Reading.{list-length}
 use Rattle.bytes_list.specs.ReadBack.{count-room, flow-decoded, list-written}
 
 -- `new` is `old` with the record r in place i, if `go`
@@ -41,23 +50,33 @@ pub record Stored (go : Bool) (old : List ℕ) (i : ℕ) (r : Record) (new : Lis
   pub no : go ≡ false → new ≡ old
 
 module _ (chip : Chip) (t b : List ℕ) where
-  -- opening: the bytes of the list afterwards
-  unfoldable pub OpenedBytes : List ℕ → ℕ → ℕ → Demand → List ℕ → Opened → Type 0
-  OpenedBytes path m f d b′ (opened.Granted g) = Written b (64 * (f - 1)) (openRecord path m (g .slots) d) b′
-  OpenedBytes path m f d b′ (opened.Refused r) = b′ ≡ b
+  -- the list that the bytes stand for agrees with the table
+  abbrev pub AgreesBytes : Type 0
+  AgreesBytes = Agrees chip t (countOf b) (listIn b)
 
-  pub record OpensBytes (path : List ℕ) (m f : ℕ) (d : Demand) (t′ b′ : List ℕ) (a : Opened) : Type 0 where
-    pub answers : Opens chip t (countOf b) (listIn b) path m f d t′ (listIn b′) a
-    pub bytes : OpenedBytes path m f d b′ a
+  -- all its records are checked
+  abbrev pub ChecksBytes : Checked → Type 0
+  ChecksBytes = Checks chip t (countOf b) (listIn b) (countOf b)
 
-  -- closing
-  unfoldable pub ClosedBytes : ℕ → List ℕ → Cleared → Type 0
-  ClosedBytes f b′ (cleared.Cells k) = Written b (64 * (f - 1)) closedRecord b′
-  ClosedBytes f b′ (cleared.Refused r) = b′ ≡ b
+  abbrev pub ReportsBytes : Reported → Type 0
+  ReportsBytes = Reports chip t (countOf b) (listIn b)
 
-  pub record ClosesBytes (f : ℕ) (t′ b′ : List ℕ) (a : Cleared) : Type 0 where
-    pub answers : Closes chip t (countOf b) (listIn b) f t′ (listIn b′) a
-    pub bytes : ClosedBytes f b′ a
+  -- the bytes of the list after a call
+  abbrev pub Leaves : Call → List ℕ → Answer → Type 0
+  Leaves call b′ (answer.Done y) =
+      Written b (64 * (call .flow - 1)) (change (flow (listIn b) (call .flow - 1)) call (call .verb) y .new) b′
+  Leaves call b′ (answer.Refused q) = b′ ≡ b
+
+  pub record PerformsBytes (call : Call) (t′ b′ : List ℕ) (a : Answer) : Type 0 where
+    pub answers : Performs chip t (countOf b) (listIn b) call t′ (listIn b′) a
+    pub bytes : Leaves call b′ a
+
+  -- opening and closing are its cases
+  abbrev pub OpensBytes : List ℕ → ℕ → ℕ → Demand → List ℕ → List ℕ → Opened → Type 0
+  OpensBytes path m f d t′ b′ a = PerformsBytes (opening path m f d) t′ b′ (ofOpened a)
+
+  abbrev pub ClosesBytes : ℕ → List ℕ → List ℕ → Cleared → Type 0
+  ClosesBytes f t′ b′ a = PerformsBytes (closing f) t′ b′ (ofCleared a)
 
 -- ---- what is stored fits a record's bytes
 
@@ -65,10 +84,6 @@ pub record Fitting (r : Record) : Type 0 where
   pub len : r .len ≤ 16
   pub long : length (r .path) ≡ 16
   pub slots : r .slots < 18446744073709551616
-
-trimmed-long : (path : List ℕ) (m : ℕ) → length (trimmed path m) ≡ 16
-unfolding trimmed
-trimmed-long path m = list-length _ 16 0
 
 closed-fits : Fitting closedRecord
 unfolding closedRecord
@@ -83,95 +98,88 @@ granted-small chip t path m W L g h grants =
     below-small (g .slots) 64
     (below-shift (g .slots) 64 (below-more (chip .wheel .n) (g .slots) h (within-below (free-below chip t path m) (grants .best .within))))
 
--- ---- the calls
+-- by the verb
+change-fits : (chip : Chip) (t : List ℕ) (n : ℕ) (disagree : Type 0) (r : Record) (call : Call) (v : Verb) (y : Yes)
+    → Passes (orderOf chip t n disagree (r .state) call v) → Told chip t r call v y → Fitting (change r call v y .new)
+unfolding openRecord
+change-fits chip t n disagree r call (ToOpen d) (yes.Granted g) p told =
+    let ready = checked-ready chip t n disagree (passes-front (checked chip t n disagree) _ p) in
+    record {
+      len = saw chip t n disagree (r .state) call d p .fits;
+      long = trimmed-long (call .path) (call .len);
+      slots = granted-small chip t (call .path) (call .len) _ _ g (ready .legal .n64) told;
+    }
+change-fits chip t n disagree r call (ToOpen d) (yes.Cells k) p told = absurd told
+change-fits chip t n disagree r call ToClose y p told = closed-fits
 
-module _ (chip : Chip) (t b : List ℕ) (agreed : Bool) where
-  opening-fits : (s : State) (path : List ℕ) (m f : ℕ) (d : Demand) (t′ : List ℕ) (o : Opening)
-      → OpensOne chip t (countOf b) agreed s path m f d t′ o → o .go ≡ true → Fitting (o .new)
-  unfolding DecidesOpen DecidesPath WritesOpen openRecord
-  opening-fits s path m f d t′ o p e = go (o .answer) (p .decides) (p .writes)
+-- ---- a call
+
+-- the list afterwards, by whether the record was stored
+stored-list : (b : List ℕ) (go : Bool) (i : ℕ) (new : Record) (b′ : List ℕ) → (go ≡ true → i < countOf b) → (go ≡ true → Fitting new) → Stored go b i new b′
+    → listIn b′ ≡ cond go (set (listIn b) i new) (listIn b)
+stored-list b true i new b′ h fits stored = list-written b i new b′ (stored .yes refl) (h refl) (fits refl .long) (fits refl .slots)
+stored-list b false i new b′ h fits stored = ap listIn (stored .no refl)
+
+module _ (chip : Chip) (t b : List ℕ) (agreed : Bool) (tells : Tells agreed (Agrees chip t (countOf b) (listIn b))) (r : Record) (call : Call)
+    (same : RecordOf (listIn b) (countOf b) (call .flow) r) (t′ : List ℕ) (o : Decision) (n : ℕ) (n-is : n ≡ countOf b)
+    (one : PerformsOne chip t n (agreed ≡ false) r call t′ o) where
+  performed : PerformsOne chip t (countOf b) (agreed ≡ false) r call t′ o
+  performed = subst (λ k. PerformsOne chip t k (agreed ≡ false) r call t′ o) n-is one
+
+  at : o .go ≡ true → (o .at < countOf b) × (countOf b ≤ 64) × (r ≡ flow (listIn b) (call .flow - 1))
+  at = stored-at chip t (countOf b) (listIn b) agreed tells r call same t′ o performed
+
+  fits : o .go ≡ true → Fitting (o .new)
+  unfolding Settles
+  fits e = subst Fitting (sym (one .new)) (go (o .answer) (one .decides) (sym (one .go) ∙ e))
     where
-      go : (a : Opened) → DecidesOpen chip t (countOf b) agreed s path m f d a → WritesOpen chip t (countOf b) agreed path m f d t′ a o → Fitting (o .new)
-      go (opened.Granted g) p w =
-          rw (w .2)
-          (record {
-            len = p .2 .0 .fits;
-            long = trimmed-long path m;
-            slots = granted-small chip t path m (d .words .0) (allowed chip path m (d .deadline)) g (p .0 .legal .n64) (p .2 .1);
-          })
-      go (opened.Refused q) p w = absurd (not-both e (w .0))
+      go : (a : Answer) → Decides chip t n (agreed ≡ false) r call (call .verb) a → isDone a ≡ true → Fitting (changeOf r call a .new)
+      go (answer.Done y) d e = change-fits chip t n (agreed ≡ false) r call (call .verb) y (d .0) (d .1)
+      go (answer.Refused q) d e = absurd (not-both e refl)
 
-  closing-fits : (r : Record) (f : ℕ) (t′ : List ℕ) (o : Closing) → ClosesOne chip t (countOf b) agreed r f t′ o → o .go ≡ true → Fitting (o .new)
-  unfolding DecidesClose WritesClose
-  closing-fits r f t′ o p e = go (o .answer) (p .writes)
+  -- what is stored has room in the list, and is short enough
+  pub store-room : o .go ≡ true → (64 * o .at + 64 ≤ length b) × (o .new .len ≤ 16)
+  store-room e = (omega (arith, at e .0, count-room b), fits e .len)
+
+  pub performs-bytes : (b′ : List ℕ) → Stored (o .go) b (o .at) (o .new) b′ → PerformsBytes chip t b call t′ b′ (o .answer)
+  performs-bytes b′ stored =
+      record {
+        answers = performs-joined chip t (countOf b) (listIn b) agreed tells r call same t′ o performed (listIn b′)
+            (stored-list b (o .go) (o .at) (o .new) b′ (λ e. at e .0) fits stored);
+        bytes = go (o .answer) (one .go) (one .new);
+      }
     where
-      go : (a : Cleared) → WritesClose chip t (countOf b) agreed r f t′ a o → Fitting (o .new)
-      go (cleared.Cells k) w = rw (w .2) closed-fits
-      go (cleared.Refused q) w = absurd (not-both e (w .0))
+      go : (a : Answer) → o .go ≡ isDone a → o .new ≡ changeOf r call a .new → Leaves chip t b call b′ a
+      go (answer.Done y) e new =
+          subst (λ x. Written b (64 * (call .flow - 1)) x b′) (new ∙ ap (λ x. change x call (call .verb) y .new) (at e .2))
+          (subst (λ k. Written b (64 * k) (o .new) b′) (one .at) (stored .yes e))
+      go (answer.Refused q) e new = stored .no e
 
-  -- told of n records, where n is their number: what is stored has room in the list, and is short enough
-  module _ (n : ℕ) (n-is : n ≡ countOf b) where
-    pub opening-counted : (s : State) (path : List ℕ) (m f : ℕ) (d : Demand) (t′ : List ℕ) (o : Opening)
-        → OpensOne chip t n agreed s path m f d t′ o → OpensOne chip t (countOf b) agreed s path m f d t′ o
-    opening-counted s path m f d t′ o p = subst (λ k. OpensOne chip t k agreed s path m f d t′ o) n-is p
+-- ---- opening and closing: the chip is made from wheel and table, the call from what was asked, and the answer is told in
+-- their words
 
-    pub opening-room : (s : State) (path : List ℕ) (m f : ℕ) (d : Demand) (t′ : List ℕ) (o : Opening)
-        → OpensOne chip t n agreed s path m f d t′ o → o .go ≡ true → (64 * o .at + 64 ≤ length b) × (o .new .len ≤ 16)
-    opening-room s path m f d t′ o p e =
-        let q = opening-counted s path m f d t′ o p in (
-          omega (arith, opening-at chip t (countOf b) agreed s path m f d t′ o q e .0, count-room b),
-          opening-fits s path m f d t′ o q e .len,
-        )
+module _ (chip made : Chip) (made-is : made ≡ chip) (t b t′ b′ : List ℕ) (a : Answer) where
+  pub opens-bytes : (path : List ℕ) (m f : ℕ) (d : Demand) (call : Call) → call ≡ opening path m f d → PerformsBytes made t b call t′ b′ a
+      → (o : Opened) → o ≡ toOpened a → OpensBytes chip t b path m f d t′ b′ o
+  opens-bytes path m f d call e p o told =
+      subst (OpensBytes chip t b path m f d t′ b′) (sym told)
+      (go a (subst (λ x. PerformsBytes x t b (opening path m f d) t′ b′ a) made-is (subst (λ x. PerformsBytes made t b x t′ b′ a) e p)))
+    where
+      go : (a : Answer) → PerformsBytes chip t b (opening path m f d) t′ b′ a → OpensBytes chip t b path m f d t′ b′ (toOpened a)
+      go (answer.Done (yes.Granted g)) p = p
+      go (answer.Done (yes.Cells k)) p = absurd (p .answers .1)
+      go (answer.Refused q) p = p
 
-    pub closing-counted : (r : Record) (f : ℕ) (t′ : List ℕ) (o : Closing) → ClosesOne chip t n agreed r f t′ o → ClosesOne chip t (countOf b) agreed r f t′ o
-    closing-counted r f t′ o p = subst (λ k. ClosesOne chip t k agreed r f t′ o) n-is p
-
-    pub closing-room : (r : Record) (f : ℕ) (t′ : List ℕ) (o : Closing) → ClosesOne chip t n agreed r f t′ o → o .go ≡ true
-        → (64 * o .at + 64 ≤ length b) × (o .new .len ≤ 16)
-    closing-room r f t′ o p e =
-        let q = closing-counted r f t′ o p in
-        (omega (arith, closing-at chip t (countOf b) agreed r f t′ o q e .0, count-room b), closing-fits r f t′ o q e .len)
-
-    pub reporting-counted : (held : ℕ) (a : Reported) → ReportsOne chip t n agreed held a → ReportsOne chip t (countOf b) agreed held a
-    reporting-counted held a p = subst (λ k. ReportsOne chip t k agreed held a) n-is p
-
-  -- the list afterwards, by whether the record was stored
-  stored-list : (go : Bool) (i : ℕ) (new : Record) (b′ : List ℕ) → (go ≡ true → i < countOf b) → (go ≡ true → Fitting new) → Stored go b i new b′
-      → listIn b′ ≡ cond go (set (listIn b) i new) (listIn b)
-  stored-list true i new b′ h fits stored = list-written b i new b′ (stored .yes refl) (h refl) (fits refl .long) (fits refl .slots)
-  stored-list false i new b′ h fits stored = ap listIn (stored .no refl)
-
-  module _ (tells : Tells agreed (Agrees chip t (countOf b) (listIn b))) (r : Record) (f : ℕ) (same : countOf b ≤ 64 → 1 ≤ f → f ≤ countOf b → r ≡ flow (listIn b) (f - 1)) where
-    pub opens-bytes : (path : List ℕ) (m : ℕ) (d : Demand) (t′ b′ : List ℕ) (o : Opening)
-        → OpensOne chip t (countOf b) agreed (r .state) path m f d t′ o → Stored (o .go) b (o .at) (o .new) b′
-        → OpensBytes chip t b path m f d t′ b′ (o .answer)
-    unfolding OpenedBytes WritesOpen
-    opens-bytes path m d t′ b′ o p stored =
-        record {
-          answers = opens-joined chip t (countOf b) (listIn b) agreed tells r f same path m d t′ (listIn b′) o p
-              (stored-list (o .go) (o .at) (o .new) b′ (λ e. opening-at chip t (countOf b) agreed (r .state) path m f d t′ o p e .0)
-              (opening-fits (r .state) path m f d t′ o p) stored);
-          bytes = go (o .answer) (p .writes);
-        }
-      where
-        go : (a : Opened) → WritesOpen chip t (countOf b) agreed path m f d t′ a o → OpenedBytes chip t b path m f d b′ a
-        go (opened.Granted g) w = rw (← w .1, ← w .2) (stored .yes (w .0))
-        go (opened.Refused q) w = stored .no (w .0)
-
-    pub closes-bytes : (t′ b′ : List ℕ) (o : Closing) → ClosesOne chip t (countOf b) agreed r f t′ o → Stored (o .go) b (o .at) (o .new) b′
-        → ClosesBytes chip t b f t′ b′ (o .answer)
-    unfolding ClosedBytes WritesClose
-    closes-bytes t′ b′ o p stored =
-        record {
-          answers = closes-joined chip t (countOf b) (listIn b) agreed tells r f same t′ (listIn b′) o p
-              (stored-list (o .go) (o .at) (o .new) b′ (λ e. closing-at chip t (countOf b) agreed r f t′ o p e .0)
-              (closing-fits r f t′ o p) stored);
-          bytes = go (o .answer) (p .writes);
-        }
-      where
-        go : (a : Cleared) → WritesClose chip t (countOf b) agreed r f t′ a o → ClosedBytes chip t b f b′ a
-        go (cleared.Cells k) w = rw (← w .1, ← w .2) (stored .yes (w .0))
-        go (cleared.Refused q) w = stored .no (w .0)
+  pub closes-bytes : (f : ℕ) (call : Call) → call ≡ closing f → PerformsBytes made t b call t′ b′ a → (o : Cleared) → o ≡ toCleared a
+      → ClosesBytes chip t b f t′ b′ o
+  closes-bytes f call e p o told =
+      subst (ClosesBytes chip t b f t′ b′) (sym told)
+      (go a (subst (λ x. PerformsBytes x t b (closing f) t′ b′ a) made-is (subst (λ x. PerformsBytes made t b x t′ b′ a) e p)))
+    where
+      go : (a : Answer) → PerformsBytes chip t b (closing f) t′ b′ a → ClosesBytes chip t b f t′ b′ (toCleared a)
+      go (answer.Done (yes.Granted g)) p = absurd (p .answers .1)
+      go (answer.Done (yes.Cells k)) p = p
+      go (answer.Refused q) p = p
 
 -- there is room for each record of the list
 pub record-room : (b : List ℕ) (i : ℕ) → i < countOf b → 64 * i + 64 ≤ length b

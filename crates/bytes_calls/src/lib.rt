@@ -1,17 +1,18 @@
-// Opening, closing and the report with the flow list lent as bytes (`bytes_list`). The list is never
-// copied: each record is read where it stands, and a grant writes the 64 bytes of one.
+// The calls with the flow list lent as bytes (`bytes_list`). The list is never copied: each record is
+// read where it stands, and a grant writes the 64 bytes of one.
 ghost use mathlib.Core.Path.{_≡_};
 ghost use mathlib.Core.Bool.{true};
 ghost use Prim.Native.Nat.{_+_, _*_, _≤_};
 ghost use lib.ListN.{length};
 ghost use Rattle.rules.specs.Tells.{Tells};
 ghost use Rattle.rules.specs.Paths.{chipOf};
-ghost use Rattle.rules.specs.Promises.{Reports};
-ghost use Rattle.agree.specs.Checks.{Agrees, Checks};
-ghost use Rattle.core.specs.ByValue.{RecordOf};
+ghost use Rattle.perform.specs.Joined.{RecordOf};
 ghost use Rattle.bytes_list.specs.Layout.{countOf, listIn};
-ghost use Rattle.bytes_calls.specs.OverBytes.{Stored, OpensBytes, ClosesBytes};
+ghost use Rattle.bytes_calls.specs.OverBytes.{Stored, AgreesBytes, ChecksBytes, PerformsBytes, OpensBytes, ClosesBytes, ReportsBytes};
 use agree::Checked;
+use rules::Answer;
+use rules::Call;
+use rules::Chip;
 use rules::Cleared;
 use rules::Demand;
 use rules::Opened;
@@ -20,11 +21,11 @@ use rules::Reported;
 use rules::Wheel;
 
 // The check of all records of the list.
-pub fn check(table: &[u8], w: Wheel, list: &[u8]) -> Checked
-    ensures { λ c. ⌜ Checks (chipOf w (now (table .entry))) (now (table .entry)) (countOf (now (list .entry))) (listIn (now (list .entry))) (countOf (now (list .entry))) c ⌝ }
+fn check(table: &[u8], list: &[u8], chip: Chip) -> Checked
+    ensures { λ c. ⌜ ChecksBytes chip (now (table .entry)) (now (list .entry)) c ⌝ }
 {
     let n = bytes_list::count_of(list);
-    let mut c = agree::begin(table, w, n);
+    let mut c = agree::begin(table, chip, n);
     if !c.ok {
         return c;
     }
@@ -32,28 +33,37 @@ pub fn check(table: &[u8], w: Wheel, list: &[u8]) -> Checked
     while f < n {
         let at = 64 * f;
         let r = bytes_list::record_at(list, at);
-        c = agree::step(table, w, c, r, f);
+        c = agree::step(table, chip, c, r, f);
         f += 1;
     }
     c
 }
 
-// Whether wheel, table and list are good, and table and list agree.
-pub fn agrees(table: &[u8], w: Wheel, list: &[u8]) -> bool
-    ensures { λ r. ⌜ Tells r (Agrees (chipOf w (now (table .entry))) (now (table .entry)) (countOf (now (list .entry))) (listIn (now (list .entry)))) ⌝ }
+// Whether the chip's table and list are good, and agree.
+fn agrees(table: &[u8], list: &[u8], chip: Chip) -> bool
+    ensures { λ r. ⌜ Tells r (AgreesBytes chip (now (table .entry)) (now (list .entry))) ⌝ }
 {
-    let c = check(table, w, list);
+    let c = check(table, list, chip);
     agree::settle(table, c)
 }
 
-// Reports free and held cells.
-pub fn report_cells(table: &[u8], w: Wheel, list: &[u8]) -> Reported
-    ensures { λ a. ⌜ Reports (chipOf w (now (table .entry))) (now (table .entry)) (countOf (now (list .entry))) (listIn (now (list .entry))) a ⌝ }
+// Whether wheel, table and list are good, and table and list agree.
+pub fn agree(table: &[u8], list: &[u8], w: Wheel) -> bool
+    ensures { λ r. ⌜ Tells r (AgreesBytes (chipOf w (now (table .entry))) (now (table .entry)) (now (list .entry))) ⌝ }
 {
-    let c = check(table, w, list);
+    let chip = table::chip_of(table, w);
+    agrees(table, list, chip)
+}
+
+// Reports free and held cells.
+pub fn report(table: &[u8], list: &[u8], w: Wheel) -> Reported
+    ensures { λ a. ⌜ ReportsBytes (chipOf w (now (table .entry))) (now (table .entry)) (now (list .entry)) a ⌝ }
+{
+    let chip = table::chip_of(table, w);
+    let c = check(table, list, chip);
     let agreed = agree::settle(table, c);
     let n = bytes_list::count_of(list);
-    core::report_one(table, w, n, agreed, c.held)
+    perform::report_one(table, chip, n, agreed, c.held)
 }
 
 // The record of a flow; the closed one where the list has no such flow.
@@ -61,13 +71,13 @@ fn flow_record(list: &[u8], flow: usize) -> Record
     ensures { λ r. ⌜ RecordOf (listIn (now (list .entry))) (countOf (now (list .entry))) flow r ⌝ }
 {
     if flow < 1 {
-        return core::closed_record();
+        return changes::closed_record();
     }
     if bytes_list::count_of(list) < flow {
-        return core::closed_record();
+        return changes::closed_record();
     }
     if 64 < flow {
-        return core::closed_record();
+        return changes::closed_record();
     }
     let at = 64 * (flow - 1);
     bytes_list::record_at(list, at)
@@ -84,14 +94,14 @@ fn store(list: &mut [u8], go: bool, i: usize, new: Record)
     }
 }
 
-// Closes a flow.
-pub fn close_flow(table: &mut [u8], w: Wheel, list: &mut [u8], flow: usize) -> Cleared
-    ensures { λ a. ⌜ ClosesBytes (chipOf w (now (table .entry))) (now (table .entry)) (now (list .entry)) flow (now (table .exit)) (now (list .exit)) a ⌝ }
+// Performs a call.
+pub fn perform(table: &mut [u8], list: &mut [u8], chip: Chip, call: Call) -> Answer
+    ensures { λ a. ⌜ PerformsBytes chip (now (table .entry)) (now (list .entry)) call (now (table .exit)) (now (list .exit)) a ⌝ }
 {
-    let agreed = agrees(table, w, list);
+    let agreed = agrees(table, list, chip);
     let n = bytes_list::count_of(list);
-    let r = flow_record(list, flow);
-    let o = core::close_one(table, w, n, agreed, r, flow);
+    let r = flow_record(list, call.flow);
+    let o = perform::perform_one(table, chip, n, agreed, r, call);
     let new = o.new;
     let answer = o.answer;
     store(list, o.go, o.at, new);
@@ -99,24 +109,28 @@ pub fn close_flow(table: &mut [u8], w: Wheel, list: &mut [u8], flow: usize) -> C
 }
 
 // Opens a flow on a path with a demand.
-pub fn open_flow(
+pub fn open(
     table: &mut [u8],
-    w: Wheel,
     list: &mut [u8],
+    w: Wheel,
     flow: usize,
     path: [u16; 16],
     len: usize,
     demand: Demand,
 ) -> Opened
-    ensures { λ a. ⌜ OpensBytes (chipOf w (now (table .entry))) (now (table .entry)) (now (list .entry)) path len flow demand (now (table .exit)) (now (list .exit)) a ⌝ }
+    ensures { λ a. ⌜ OpensBytes (chipOf w (now (table .entry))) (now (table .entry)) (now (list .entry)) path len flow demand
+        (now (table .exit)) (now (list .exit)) a ⌝ }
 {
-    let agreed = agrees(table, w, list);
-    let n = bytes_list::count_of(list);
-    let r = flow_record(list, flow);
-    let s = r.state;
-    let o = core::open_one(table, w, n, agreed, s, flow, path, len, demand);
-    let new = o.new;
-    let answer = o.answer;
-    store(list, o.go, o.at, new);
-    answer
+    let chip = table::chip_of(table, w);
+    let call = changes::to_open(flow, path, len, demand);
+    changes::opened_as(perform(table, list, chip, call))
+}
+
+// Closes a flow.
+pub fn close(table: &mut [u8], list: &mut [u8], w: Wheel, flow: usize) -> Cleared
+    ensures { λ a. ⌜ ClosesBytes (chipOf w (now (table .entry))) (now (table .entry)) (now (list .entry)) flow (now (table .exit)) (now (list .exit)) a ⌝ }
+{
+    let chip = table::chip_of(table, w);
+    let call = changes::to_close(flow);
+    changes::cleared_as(perform(table, list, chip, call))
 }

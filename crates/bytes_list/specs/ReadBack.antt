@@ -17,8 +17,9 @@ use Rattle.rules.specs.Sets.{all, listOf}
 use Rattle.rules.specs.Paths.{Chip}
 use Rattle.rules.specs.Flows.{none, flow, Own, Agree}
 use Rattle.laws.specs.Logic.{le-or-lt}
+use Rattle.laws.specs.Counting.{list-length}
 use Rattle.bytes_list.specs.Layout.{countOf, numberAt, numbersAt, knownState, isZero, formed, asks, stateFrom, pathFrom, slotsFrom, recordFrom, decoded, records, listIn, stateNumber, slotsNumber, numberOf, Written}
-use Rattle.bytes_list.specs.Reading.{list-is, list-at, list-length, made}
+use Rattle.bytes_list.specs.Reading.{list-is, list-at, made}
 use Rattle.bytes_list.specs.Writing.{number-path}
 
 -- ---- records with the same numbers
@@ -83,7 +84,8 @@ module _ (p : List ℕ) (m x : ℕ) where
 
   self-slots : (s : State) → x < 18446744073709551616 → slotsFrom (numberOf (record { state = s; path = p; len = m; slots = x })) ≡ x
   unfolding slotsFrom numberOf slotsNumber
-  self-slots s h = ap (λ v. v % 65536 + 65536 * (x / 65536 % 65536 + 65536 * (x / 4294967296 % 65536 + 65536 * (x / 281474976710656 % 65536)))) (div-one x) ∙ four x h
+  self-slots s h =
+      ap (λ v. v % 65536 + 65536 * (x / 65536 % 65536 + 65536 * (x / 4294967296 % 65536 + 65536 * (x / 281474976710656 % 65536)))) (div-one x) ∙ four x h
 
   self-len : (s : State) → numberOf (record { state = s; path = p; len = m; slots = x }) 3 ≡ m
   unfolding numberOf

@@ -1,5 +1,5 @@
 -- The tests of a record's numbers, by how they come out, and the state and path that are read from them.
-use mathlib.Core.Path.{_≡_, refl, sym, ap, _∙_}
+use mathlib.Core.Path.{_≡_, sym, ap, _∙_}
 use mathlib.Core.Bool.{Bool, true, false}
 use mathlib.Core.List.{List}
 use Prim.Native.Nat.{ℕ, zero, suc, _+_, _<_}
@@ -12,6 +12,7 @@ use borrow.Author.Tests.{eq-eqb, ne-eqb}
 use Rattle.rules.specs.declared.State.{State}
 use Rattle.rules.specs.declared.State.the-variants.{Closed, Open}
 use Rattle.rules.specs.Sets.{all, listOf}
+use Rattle.laws.specs.Counting.{list-length}
 use Rattle.bytes_list.specs.Layout.{knownState, isZero, formed, asks, stateFrom, pathFrom, slotsFrom, recordFrom}
 
 module _ (g : ℕ → ℕ) where
@@ -60,11 +61,6 @@ unfolding listOf
 list-at f zero i d h = absurd (omega arith)
 list-at f (suc m) i zero h = ap f (sym (add-zero i))
 list-at f (suc m) i (suc d) h = list-at f m (suc i) d (omega arith) ∙ ap f (suc-add i d ∙ sym (add-suc i d))
-
-pub list-length : (f : ℕ → ℕ) (m i : ℕ) → length (listOf f i m) ≡ m
-unfolding listOf
-list-length f zero i = refl
-list-length f (suc m) i = ap suc (list-length f m (suc i))
 
 -- a list of m numbers is listed by what stands at each place
 pub list-is : (f : ℕ → ℕ) (m : ℕ) (p : List ℕ) → length p ≡ m → ((i : ℕ) → i < m → getD p i 0 ≡ f i) → p ≡ listOf f 0 m

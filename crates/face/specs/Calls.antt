@@ -21,17 +21,18 @@ use Rattle.rules.specs.declared.Reported.the-variants as reported
 use Rattle.rules.specs.Paths.{chipOf}
 use Rattle.rules.specs.Numbers.{number, Refuses, Passes}
 use Rattle.rules.specs.Orders.{reportOrder, closeOrder, openOrder}
-use Rattle.rules.specs.Promises.{Opens, Closes, Reports, Asked, Row}
+use Rattle.rules.specs.Promises.{Reports, HasRow, Row}
 use Rattle.laws.specs.Logic.{le-or-lt}
+use Rattle.laws.specs.Bounds.{size-most}
 use Rattle.bytes_list.specs.Layout.{countOf, listIn}
-use Rattle.bytes_calls.specs.OverBytes.{OpenedBytes, OpensBytes, ClosedBytes, ClosesBytes}
+use Rattle.bytes_calls.specs.OverBytes.{OpensBytes, ClosesBytes}
 use Rattle.face.specs.declared.Selection.{Selection}
 use Rattle.face.specs.declared.FacePath.{FacePath}
 use Rattle.face.specs.declared.Clearing.{Clearing}
 use Rattle.face.specs.declared.Report.{Report}
 use Rattle.face.specs.declared.Part.{Part}
 use Rattle.face.specs.Selection.{grantOf}
-use Rattle.face.specs.Cases.{size-at-most, slots-at-most}
+use Rattle.face.specs.Cases.{slots-at-most}
 
 -- ---- answers as structs
 
@@ -110,8 +111,8 @@ module _ (w : Wheel) (t b : List ℕ) where
 
 -- the row of a channel: where it starts, and its N cells
 pub record RowPart (w : Wheel) (t : List ℕ) (c : ℕ) (r : Part) : Type 0 where
-  pub good : Asked (chipOf w t) t c → (r .offset ≡ 64 * c) × (r .length ≡ w .n)
-  pub bad : ¬ Asked (chipOf w t) t c → (r .offset ≡ 0) × (r .length ≡ 0)
+  pub good : HasRow (chipOf w t) t c → (r .offset ≡ 64 * c) × (r .length ≡ w .n)
+  pub bad : ¬ HasRow (chipOf w t) t c → (r .offset ≡ 0) × (r .length ≡ 0)
 
 -- ---- each answer, for C, where the wheel v that was asked with is C's
 
@@ -128,7 +129,7 @@ module _ (w v : Wheel) (asked : v ≡ w) (t b : List ℕ) where
 
   pub close-told : (f : ℕ) (t′ b′ : List ℕ) (a : Cleared) (r : Clearing) → r ≡ clearingOf a → ClosesBytes (chipOf v t) t b f t′ b′ a
       → Closing w t b f t′ b′ r
-  unfolding Closing Closes ClosedBytes
+  unfolding Closing
   close-told f t′ b′ (cleared.Cells k) r e p = rw (← asked, e) (inl (record { number = refl; closes = p }))
   close-told f t′ b′ (cleared.Refused q) r e p =
       rw (← asked, e) (inr (record { number = p .answers .0; cells = refl; table = p .answers .1; list = p .bytes }))
@@ -136,15 +137,15 @@ module _ (w v : Wheel) (asked : v ≡ w) (t b : List ℕ) where
   module _ (path : FacePath) (f W D : ℕ) (t′ b′ : List ℕ) where
     pub few-slots : (a : Opened)
         → OpensBytes (chipOf v t) t b (path .channels) (path .length) f (record { words = record { 0 = W }; deadline = D }) t′ b′ a → FewSlots a
-    unfolding FewSlots Opens Passes
+    unfolding FewSlots Passes
     few-slots (opened.Granted g) p =
-        omega (arith, p .answers .1 .count, size-at-most (v .n) (g .slots), slots-at-most v (p .answers .0 .0))
+        omega (arith, p .answers .1 .count, size-most (v .n) (g .slots), slots-at-most v (p .answers .0 .0))
     few-slots (opened.Refused q) p = tt
 
     pub open-told : (a : Opened) (r : Selection) → r ≡ selectionOf a
         → OpensBytes (chipOf v t) t b (path .channels) (path .length) f (record { words = record { 0 = W }; deadline = D }) t′ b′ a
         → Opening w t b path f W D t′ b′ r
-    unfolding Opening Opens OpenedBytes
+    unfolding Opening
     open-told (opened.Granted g) r e p = rw (← asked, e) (inl (record { number = refl; opens = p }))
     open-told (opened.Refused q) r e p =
         rw (← asked, e)
@@ -184,7 +185,7 @@ module _ (w v : Wheel) (asked : v ≡ w) (t : List ℕ) (c : ℕ) (part : List �
   told-w : Row (chipOf w t) t c part
   told-w = subst (λ u. Row (chipOf u t) t c part) asked told
 
-  row-long : Asked (chipOf w t) t c → k ≡ w .n
+  row-long : HasRow (chipOf w t) t c → k ≡ w .n
   row-long a =
       k-is ∙ ap length (told-w .good a)
       ∙ length-take-le (w .n) (drop (64 * c) t) (omega (arith, length-drop (64 * c) t, a .tabled .long, a .inside, a .legal .n64))
@@ -192,7 +193,7 @@ module _ (w v : Wheel) (asked : v ≡ w) (t : List ℕ) (c : ℕ) (part : List �
   pub row-none : k ≡ 0 → RowPart w t c (record { offset = 0; length = 0 })
   row-none e = record { good = λ a. absurd (omega (arith, row-long a, a .legal .n1)); bad = λ _. (refl, refl) }
 
-  row-some : ¬ (k ≡ 0) → ¬ (¬ Asked (chipOf w t) t c)
+  row-some : ¬ (k ≡ 0) → ¬ (¬ HasRow (chipOf w t) t c)
   row-some some never = some (k-is ∙ ap length (told-w .bad never))
 
   pub row-inside : ¬ (k ≡ 0) → c < 64

@@ -2,8 +2,7 @@
 -- bits.
 use mathlib.Core.Path.{_≡_, refl, sym, subst, _∙_}
 use mathlib.Core.Logic.{inl, inr}
-use mathlib.Core.Bool.{Bool, true, false, cond}
-use Prim.Native.Nat.{ℕ, zero, suc, _≤_}
+use Prim.Native.Nat.{ℕ, _≤_}
 use native.Mathlib.Omega.{arith}
 use native.Mathlib.Decide.{decLe}
 use Rattle.rules.specs.declared.Wheel.{Wheel}
@@ -11,26 +10,13 @@ use Rattle.rules.specs.declared.Grant.{Grant}
 use Rattle.rules.specs.declared.Refusal.{Refusal}
 use Rattle.rules.specs.declared.Selected.{Selected}
 use Rattle.rules.specs.declared.Selected.the-variants.{Chosen, Refused}
-use Rattle.rules.specs.Sets.{sum}
-use Rattle.rules.specs.Wheels.{Legal, chosen, size}
+use Rattle.rules.specs.Wheels.{Legal}
 use Rattle.rules.specs.Numbers.{number, Refuses, Passes}
 use Rattle.rules.specs.Orders.{selectOrder}
 use Rattle.rules.specs.Promises.{Grants, Selects}
 use Rattle.face.specs.declared.Selection.{Selection}
+use Rattle.laws.specs.Bounds.{size-most}
 use Rattle.face.specs.Selection.{Answers}
-
-one-at-most : (b : Bool) → cond b 1 0 ≤ 1
-one-at-most true = omega arith
-one-at-most false = omega arith
-
-ones-at-most : (f : ℕ → Bool) (i m : ℕ) → sum (λ j. cond (f j) 1 0) i m ≤ m
-unfolding sum
-ones-at-most f i zero = omega arith
-ones-at-most f i (suc m) = omega (arith, one-at-most (f i), ones-at-most f (suc i) m)
-
-pub size-at-most : (N x : ℕ) → size N x ≤ N
-unfolding size
-size-at-most N x = ones-at-most (chosen N x) 0 N
 
 pub slots-at-most : (w : Wheel) → ¬ (¬ Legal w) → w .n ≤ 64
 slots-at-most w h = go (decLe (w .n) 64)
@@ -52,7 +38,7 @@ module _ (w : Wheel) (free W L : ℕ) (r : Selected) (promised : Selects w free 
   unfolding Passes
   small g e =
       let (passes, grants) = granted g e in
-      omega (arith, grants .count, size-at-most (w .n) (g .slots), slots-at-most w (passes .0))
+      omega (arith, grants .count, size-most (w .n) (g .slots), slots-at-most w (passes .0))
 
   pub grant : (g : Grant) → r ≡ Chosen g
       → Answers w free W L record { slots = g .slots; number = 0; count = g .count; words = g .words .0 }

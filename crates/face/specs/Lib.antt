@@ -1,4 +1,4 @@
 pub mod Selection
 pub mod Cases
 pub mod Calls
-pub mod Settles
+pub mod Unique

@@ -142,7 +142,7 @@ pub extern "C" fn jellyspire_report(wheel: FaceWheel, table: &[u8], list: &[u8])
     ensures { λ r. ⌜ Reporting (wheelOf wheel) (now (table .entry)) (now (list .entry)) r ⌝ }
 {
     let w = wheel_of(wheel);
-    report_of(bytes_calls::report_cells(table, w, list))
+    report_of(bytes_calls::report(table, list, w))
 }
 
 // Whether table and list agree: 0, or the number of the first thing that is wrong.
@@ -151,7 +151,7 @@ pub extern "C" fn jellyspire_agree(wheel: FaceWheel, table: &[u8], list: &[u8]) 
     ensures { λ r. ⌜ Agreeing (wheelOf wheel) (now (table .entry)) (now (list .entry)) r ⌝ }
 {
     let w = wheel_of(wheel);
-    let r = report_of(bytes_calls::report_cells(table, w, list));
+    let r = report_of(bytes_calls::report(table, list, w));
     r.number
 }
 
@@ -182,7 +182,7 @@ pub extern "C" fn jellyspire_close(
     ensures { λ r. ⌜ Closing (wheelOf wheel) (now (table .entry)) (now (list .entry)) flow (now (table .exit)) (now (list .exit)) r ⌝ }
 {
     let w = wheel_of(wheel);
-    clearing_of(bytes_calls::close_flow(table, w, list, flow))
+    clearing_of(bytes_calls::close(table, list, w, flow))
 }
 
 // The answer of an opening, for C.
@@ -226,7 +226,7 @@ pub extern "C" fn jellyspire_open(
         words: Words(words),
         deadline,
     };
-    selection_of(bytes_calls::open_flow(table, w, list, flow, channels, length, demand))
+    selection_of(bytes_calls::open(table, list, w, flow, channels, length, demand))
 }
 
 // The number of bytes of a part.

@@ -1,34 +1,27 @@
 // The tests of a path and of one record of the flow list: is every entry a channel, does none stand
 // twice, are unused entries zero, does the record obey its own rules.
 ghost use mathlib.Core.Path.{_≡_};
-ghost use Prim.Native.Nat.{ℕ, _≤_, _<_};
+ghost use Prim.Native.Nat.{_≤_, _<_};
 ghost use Rattle.rules.specs.Tells.{Tells};
 ghost use Rattle.rules.specs.Wheels.{Legal};
 ghost use Rattle.rules.specs.Best.{Meets};
-ghost use Rattle.rules.specs.Paths.{Once, Rest};
+ghost use Rattle.rules.specs.Paths.{Inside, Once, Rest};
 ghost use Rattle.rules.specs.Flows.{claiming, Blank, Lawful, Own, cellsOf};
-ghost use Rattle.rules.specs.Promises.{trimmed};
-ghost use Rattle.flows.specs.Tests.{chipWith, TellsInside, Fresh};
+ghost use Rattle.flows.specs.Tests.{Fresh};
+use rules::Chip;
 use rules::Demand;
 use rules::Record;
 use rules::State;
 use rules::Wheel;
 
-// A path's entry as a number of channels.
-fn wide(c: u16) -> usize
-    ensures { λ r. ⌜ r ≡ c ⌝ }
-{
-    c as usize
-}
-
 // Whether every entry is below the number of channels.
 pub fn inside(path: [u16; 16], len: usize, channels: usize) -> bool
     requires { ⌜ len ≤ 16 ⌝ }
-    ensures { λ r. ⌜ TellsInside path len channels r ⌝ }
+    ensures { λ r. ⌜ Tells r (Inside channels path len) ⌝ }
 {
     let mut i = 0;
     while i < len {
-        if channels <= wide(path[i]) {
+        if channels <= route::channel(path, i) {
             return false;
         }
         i += 1;
@@ -118,10 +111,11 @@ fn blank(r: Record) -> bool
 }
 
 // Whether an open record with the demand d obeys its rules.
-fn lawful(w: Wheel, channels: usize, d: Demand, r: Record) -> bool
-    requires { ⌜ Legal w ⌝ }
-    ensures { λ b. ⌜ Tells b (Lawful (chipWith w channels) d r) ⌝ }
+fn lawful(chip: Chip, d: Demand, r: Record) -> bool
+    requires { ⌜ Legal (chip .wheel) ⌝ }
+    ensures { λ b. ⌜ Tells b (Lawful chip d r) ⌝ }
 {
+    let w = chip.wheel;
     let path = r.path;
     let len = r.len;
     if len < 1 {
@@ -130,7 +124,7 @@ fn lawful(w: Wheel, channels: usize, d: Demand, r: Record) -> bool
     if 16 < len {
         return false;
     }
-    if !inside(path, len, channels) {
+    if !inside(path, len, chip.channels) {
         return false;
     }
     if !once(path, len) {
@@ -143,24 +137,25 @@ fn lawful(w: Wheel, channels: usize, d: Demand, r: Record) -> bool
         return false;
     }
     let last = d.deadline as usize;
-    if last <= len {
+    let travel = route::travel(chip, path, len);
+    if last <= travel {
         return false;
     }
     if !measure::below(r.slots, w.n) {
         return false;
     }
-    meets(w, d.words.0, last - len, r.slots)
+    meets(w, d.words.0, last - travel, r.slots)
 }
 
 // Whether a record obeys its own rules.
-pub fn own(w: Wheel, channels: usize, r: Record) -> bool
-    requires { ⌜ Legal w ⌝ }
-    ensures { λ b. ⌜ Tells b (Own (chipWith w channels) (r .state) r) ⌝ }
+pub fn own(chip: Chip, r: Record) -> bool
+    requires { ⌜ Legal (chip .wheel) ⌝ }
+    ensures { λ b. ⌜ Tells b (Own chip (r .state) r) ⌝ }
 {
     let s = r.state;
     match s {
         State::Closed => blank(r),
-        State::Open(d) => lawful(w, channels, d, r),
+        State::Open(d) => lawful(chip, d, r),
     }
 }
 
@@ -168,24 +163,11 @@ pub fn own(w: Wheel, channels: usize, r: Record) -> bool
 pub fn cells_of(w: Wheel, r: Record) -> usize
     requires { ⌜ Legal w ⌝ }
     requires { ⌜ r .len ≤ 16 ⌝ }
-    ensures { λ k. ⌜ ((c : ℕ) → k ≡ cellsOf (chipWith w c) r) ⌝ }
+    ensures { λ k. ⌜ k ≡ cellsOf w r ⌝ }
 {
     let s = r.state;
     if !claims_cells(s) {
         return 0;
     }
     measure::size(w, r.slots) * r.len
-}
-
-// The path with zeros in its unused entries.
-pub fn trim(path: [u16; 16], len: usize) -> [u16; 16]
-    ensures { λ r. ⌜ r ≡ trimmed path len ⌝ }
-{
-    let mut p = path;
-    let mut i = len;
-    while i < 16 {
-        p[i] = 0;
-        i += 1;
-    }
-    p
 }

@@ -219,12 +219,3 @@ decimal-long n = digits-long 20 n
 pub decimal-short : (b n : ℕ) → n < bound (suc b) → length (decimal n) ≤ suc b
 unfolding decimal
 decimal-short b n h = digits-short b 19 n h
-
--- a number up to 65535
-pub decimal-five : (n : ℕ) → n ≤ 65535 → (1 ≤ length (decimal n)) × (length (decimal n) ≤ 5)
-unfolding bound leading
-decimal-five n h = (go (decimal n) (decimal-begins n [] h), decimal-short 4 n (omega arith))
-  where
-    go : (xs : List ℕ) → leading (xs ++ []) < 10 → 1 ≤ length xs
-    go [] l = absurd (omega arith)
-    go (x ∷ xs) l = omega arith

@@ -3,13 +3,8 @@ use mathlib.Core.Path.{_≡_, refl, ap, _∙_}
 use mathlib.Core.List.{_∷_}
 use Prim.Native.Nat.{ℕ, zero, suc, _+_, _<_}
 use native.Mathlib.Omega.{arith}
-use lib.ListN.{length, getD, replicate}
+use lib.ListN.{getD, replicate}
 use Rattle.rules.specs.Sets.{listOf}
-
-pub listOf-length : (f : ℕ → ℕ) (i m : ℕ) → length (listOf f i m) ≡ m
-unfolding listOf
-listOf-length f i zero = refl
-listOf-length f i (suc m) = ap suc (listOf-length f (suc i) m)
 
 pub listOf-at : (f : ℕ → ℕ) (i m j : ℕ) → j < m → getD (listOf f i m) j 0 ≡ f (i + j)
 unfolding listOf

@@ -6,3 +6,6 @@ pub mod Spelling
 pub mod Lines
 pub mod Writing
 pub mod Filling
+pub mod Listing
+pub mod Below
+pub mod Short

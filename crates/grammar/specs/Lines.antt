@@ -1,8 +1,10 @@
 -- The lines of a text, one at a time: the bytes up to the next line feed are the first line, and what follows it has the rest.
 use mathlib.Core.Path.{_≡_, refl, sym, ap, _∙_}
 use mathlib.Core.List.{List, [], _∷_, _++_, append-nil}
+use mathlib.Core.Logic.{_⊎_, inl, inr}
 use Prim.Native.Nat.{ℕ, suc, _+_, _-_, _≤_, _<_}
 use native.Mathlib.Omega.{arith}
+use native.Mathlib.Nat.{eq-or-lt-of-le}
 use native.Mathlib.Numerals.{add-one}
 use borrow.Author.Tests.{ne-eqb}
 use lib.ListN.{length, getD, take, drop, length-drop, drop-of-length-le, take-append-drop}
@@ -35,6 +37,15 @@ pub record Ends (text : List ℕ) (at end : ℕ) : Type 0 where
   pub to : end ≤ length text
   pub clear : (i : ℕ) → at ≤ i → i < end → getD text i 0 ≡ 10 → ⊥
   pub stop : end < length text → getD text end 0 ≡ 10
+
+-- no line feed up to i, and none there
+pub passed-on : (text : List ℕ) (at i : ℕ) → ((k : ℕ) → at ≤ k → k < i → getD text k 0 ≡ 10 → ⊥) → (getD text i 0 ≡ 10 → ⊥)
+    → (k : ℕ) → at ≤ k → k < i + 1 → getD text k 0 ≡ 10 → ⊥
+passed-on text at i old here k h l e = go (eq-or-lt-of-le {n = k} {m = i} (omega arith))
+  where
+    go : (k ≡ i) ⊎ (k < i) → ⊥
+    go (inl q) = here (ap (λ j. getD text j 0) (sym q) ∙ e)
+    go (inr q) = old k h q e
 
 module _ (text : List ℕ) (at end : ℕ) (ends : Ends text at end) where
   pub line-length : length (take (end - at) (drop at text)) ≡ end - at

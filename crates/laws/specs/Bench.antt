@@ -129,7 +129,8 @@ holds (selects N free W D o) e =
     let b = and-true _ _ (a .0) in
     let c = and-true _ _ (a .1) in
     let d = and-true _ _ (c .0) in
-    outcome-holds (wheel N) free W (oneChannel D) (is-legal (wheel N) (b .0)) (below-of free N (ltb-true _ _ (b .1))) (leb-true _ _ (d .0)) (leb-true _ _ (d .1)) o (c .1)
+    outcome-holds (wheel N) free W (oneChannel D) (is-legal (wheel N) (b .0)) (below-of free N (ltb-true _ _ (b .1)))
+    (leb-true _ _ (d .0)) (leb-true _ _ (d .1)) o (c .1)
 
 -- ---- the table
 
@@ -169,5 +170,7 @@ examples =
     ∷ []
 
 bench : Each examples
-unfolding examples tests test slots table oneChannel outcome allowed travel isLegal isBest isBeaten isWithin isMeeting isBetter isBefore freeSlots free usable seen shift cell words full wordsAt start run runWords ceil chosen has size largestGap gapAt gap smallestStart distances places all any sum most stretch setOf listOf
+unfolding examples tests test slots table oneChannel outcome allowed travel isLegal isBest isBeaten isWithin isMeeting isBetter isBefore
+    freeSlots free usable seen shift cell words full wordsAt start run runWords ceil chosen has size
+    largestGap gapAt gap smallestStart distances places all any sum most stretch setOf listOf
 bench = each-holds examples refl

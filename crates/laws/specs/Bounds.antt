@@ -1,4 +1,4 @@
--- How large the parts of rule 2 can be. A run has no more headers than slots, so its headers never outweigh its words;
+-- How large a set and the parts of rule 2 can be. A run has no more headers than slots, so its headers never outweigh its words;
 -- and no slot delivers more than S words, so a set delivers at most N times S.
 use mathlib.Core.Path.{_≡_, refl}
 use mathlib.Core.Bool.{Bool, true, false}
@@ -7,9 +7,14 @@ use Prim.Native.Nat.{ℕ, zero, suc, _+_, _-_, _*_, _≤_, _<_}
 use native.Mathlib.Omega.{arith}
 use native.Mathlib.Nat.{div-eq-of-lt, div-le-of-le-mul, mul-le-mul, mul-le-mul-right, mul-suc, suc-mul, one-mul}
 use Rattle.rules.specs.declared.Wheel.{Wheel}
-use Rattle.rules.specs.Wheels.{Legal, chosen, full, ceil, runWords, words}
+use Rattle.rules.specs.Wheels.{Legal, chosen, size, full, ceil, runWords, words}
+use Rattle.laws.specs.Counting.{ones-most}
 use Rattle.laws.specs.Reading.{flags, gain, next, lineWords}
 use Rattle.laws.specs.Runs.{cut, words-read, full-words}
+
+pub size-most : (N x : ℕ) → size N x ≤ N
+unfolding size
+size-most N x = ones-most (chosen N x) N 0
 
 -- ---- a run
 

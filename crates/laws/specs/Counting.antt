@@ -1,12 +1,13 @@
--- Sums and stretches: one place more, from another place, round a wheel of n places.
-use mathlib.Core.Path.{_≡_, refl, sym, ap, ap₂, _∙_}
+-- Sums, lists and stretches: one place more, from another place, round a wheel of n places.
+use mathlib.Core.Path.{_≡_, refl, sym, ap, _∙_}
 use mathlib.Core.Bool.{Bool, true, false, cond}
 use Prim.Native.Nat.{ℕ, zero, suc, _+_, _-_, _≤_, _<_}
 use native.Mathlib.Omega.{arith}
 use native.Mathlib.Nat.{add-suc, suc-add, add-zero, zero-add}
 use native.Mathlib.Numerals.{add-one}
 use native.Mathlib.Decide.{decLe}
-use Rattle.rules.specs.Sets.{all, sum, stretch}
+use lib.ListN.{length}
+use Rattle.rules.specs.Sets.{all, sum, stretch, listOf}
 use Rattle.laws.specs.Logic.{not-both}
 use Rattle.laws.specs.Search.{all-each, all-yes}
 
@@ -20,16 +21,6 @@ sum-last f i (suc m) = rw (add-suc i m, ← suc-add i m) (omega (arith, sum-last
 -- one place more, as loops count it
 pub sum-more : (f : ℕ → ℕ) (m : ℕ) → sum f 0 (m + 1) ≡ sum f 0 m + f m
 sum-more f m = rw add-one (sum-last f 0 m ∙ ap (λ k. sum f 0 m + f k) (zero-add m))
-
-pub sum-same : (f g : ℕ → ℕ) → ((i : ℕ) → f i ≡ g i) → (i m : ℕ) → sum f i m ≡ sum g i m
-unfolding sum
-sum-same f g e i zero = refl
-sum-same f g e i (suc m) = ap₂ _+_ (e i) (sum-same f g e (suc i) m)
-
-pub sum-shift : (f : ℕ → ℕ) (s d m : ℕ) → sum f (s + d) m ≡ sum (λ i. f (s + i)) d m
-unfolding sum
-sum-shift f s d zero = refl
-sum-shift f s d (suc m) = ap (λ v. f (s + d) + v) (ap (λ i. sum f i m) (sym (add-suc s d)) ∙ sum-shift f s (suc d) m)
 
 -- a whole turn is the same from every place
 pub sum-turn : (f : ℕ → ℕ) (n : ℕ) → ((i : ℕ) → f (i + n) ≡ f i) → (s : ℕ) → sum f s n ≡ sum f 0 n
@@ -46,6 +37,23 @@ sum-some f i (suc m) h = go (decLe 1 (f i)) (sum-some f (suc i) m)
     go : Dec (1 ≤ f i) → (1 ≤ sum f (suc i) m → (d : ℕ) × (d < m) × (1 ≤ f (suc i + d))) → (d : ℕ) × (d < suc m) × (1 ≤ f (i + d))
     go (yes l) ih = (0, omega arith, rw (add-zero i) l)
     go (no l) ih = let (d, k, q) = ih (omega arith) in (suc d, omega arith, rw (add-suc i d, ← suc-add i d) q)
+
+-- as many ones at most as there are places
+pub ones-most : (f : ℕ → Bool) (m i : ℕ) → sum (λ j. cond (f j) 1 0) i m ≤ m
+unfolding sum
+ones-most f zero i = omega arith
+ones-most f (suc m) i = go (f i) (ones-most f m (suc i))
+  where
+    go : (b : Bool) → sum (λ j. cond (f j) 1 0) (suc i) m ≤ m → cond b 1 0 + sum (λ j. cond (f j) 1 0) (suc i) m ≤ suc m
+    go true h = omega arith
+    go false h = omega arith
+
+-- ---- lists
+
+pub list-length : (f : ℕ → ℕ) (m i : ℕ) → length (listOf f i m) ≡ m
+unfolding listOf
+list-length f zero i = refl
+list-length f (suc m) i = ap suc (list-length f m (suc i))
 
 -- ---- stretches
 
@@ -142,11 +150,6 @@ module _ (f : ℕ → Bool) (limit count j T : ℕ) (walked : count + stretch f 
 
   pub walk-end : limit ≤ count → count ≡ T
   walk-end h = omega (arith, walked, stretch-le f (limit - count) j)
-
-pub stretch-same : (f g : ℕ → Bool) → ((i : ℕ) → f i ≡ g i) → (i m : ℕ) → stretch f i m ≡ stretch g i m
-unfolding stretch
-stretch-same f g e i zero = refl
-stretch-same f g e i (suc m) = rw (e i) (ap (λ v. cond (g i) (suc v) 0) (stretch-same f g e (suc i) m))
 
 -- what holds at more places has the longer stretch
 pub stretch-more : (f g : ℕ → Bool) → ((i : ℕ) → f i ≡ true → g i ≡ true) → (m i : ℕ) → stretch f i m ≤ stretch g i m

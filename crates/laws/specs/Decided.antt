@@ -7,7 +7,7 @@ use Rattle.rules.specs.declared.Wheel.{Wheel}
 use Rattle.rules.specs.Wheels.{Legal}
 use Rattle.rules.specs.Paths.{Chip}
 use Rattle.rules.specs.Orders.{Tabled}
-use Rattle.rules.specs.Promises.{Asked}
+use Rattle.rules.specs.Promises.{HasRow}
 
 both : {P Q : Type 0} → Dec P → Dec Q → Dec (P × Q)
 both (yes p) (yes q) = yes (p, q)
@@ -27,12 +27,12 @@ legal-decided w =
     (both (decLe (w .n) 64)
     (both (decLe 2 (w .s .0)) (both (decLe (w .s .0) 64) (both (decLt (w .h .0) (w .s .0)) (both (decLe 1 (w .p)) (decLe (w .p) 64)))))))
 
-pub tabled-decided : (chip : Chip) (t : List ℕ) → Dec (Tabled chip t)
-tabled-decided chip t =
+pub tabled-decided : (channels : ℕ) (t : List ℕ) → Dec (Tabled channels t)
+tabled-decided channels t =
     same (λ p. record { c1 = p .0; c64 = p .1 .0; long = p .1 .1 }) (λ b. (b .c1, (b .c64, b .long)))
-    (both (decLe 1 (chip .channels)) (both (decLe (chip .channels) 64) (ℕ-discrete (length t) (64 * chip .channels))))
+    (both (decLe 1 channels) (both (decLe channels 64) (ℕ-discrete (length t) (64 * channels))))
 
-pub asked-decided : (chip : Chip) (t : List ℕ) (c : ℕ) → Dec (Asked chip t c)
-asked-decided chip t c =
+pub row-decided : (chip : Chip) (t : List ℕ) (c : ℕ) → Dec (HasRow chip t c)
+row-decided chip t c =
     same (λ p. record { legal = p .0; tabled = p .1 .0; inside = p .1 .1 }) (λ a. (a .legal, (a .tabled, a .inside)))
-    (both (legal-decided (chip .wheel)) (both (tabled-decided chip t) (decLt c (chip .channels))))
+    (both (legal-decided (chip .wheel)) (both (tabled-decided (chip .channels) t) (decLt c (chip .channels))))

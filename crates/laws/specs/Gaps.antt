@@ -16,17 +16,6 @@ module _ (N x : ℕ) where
   abbrev clear : ℕ → Bool
   clear i = not (chosen N x i)
 
-  -- slot i + g is the next chosen one after i; for a lone slot g is N
-  pub gap-is : (i g : ℕ) → 1 ≤ g → g ≤ N → chosen N x (i + g) ≡ true
-      → ((d : ℕ) → 1 ≤ d → d < g → chosen N x (i + d) ≡ false) → gap N x i ≡ g
-  unfolding gap
-  gap-is i g h l e none =
-      ap suc
-      (stretch-is clear (N - 1) (suc i) (g - 1) (omega arith)
-      (λ k q. ap not (ap (chosen N x) (omega arith) ∙ none (suc k) (omega arith) (omega arith)))
-      (λ q. ap not (ap (chosen N x) (omega arith) ∙ e)))
-      ∙ omega arith
-
   pub gap-most : 1 ≤ N → (i : ℕ) → gap N x i ≤ N
   unfolding gap
   gap-most n1 i = omega (arith, stretch-le clear (N - 1) (suc i))

@@ -10,6 +10,7 @@ pub mod Gaps
 pub mod Holes
 pub mod Whole
 pub mod Bounds
+pub mod Measured
 pub mod Order
 pub mod Refusals
 pub mod Answers

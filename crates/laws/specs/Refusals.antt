@@ -1,13 +1,16 @@
 -- Refusals: an order settles its number, a number tells its refusal, and two orders whose lines are given alike, as long as
 -- none before them is, refuse alike.
 use mathlib.Core.Path.{_≡_, refl, sym, ap, _∙_}
+use mathlib.Core.Bool.{Bool, true, false, cond}
 use mathlib.Core.List.{List, [], _∷_}
 use mathlib.Core.Logic.{inl, inr}
 use Prim.Native.Nat.{ℕ, _-_}
 use lib.ListN.{getD}
+use lib.Dec.{eqb}
+use borrow.Author.Tests.{eqb-true}
 use Rattle.rules.specs.declared.Refusal.{Refusal}
 use Rattle.rules.specs.declared.Refusal.the-variants.{BadWheel, BadTable, BadList, Disagree, PathLength, NoChannel, ChannelTwice, NoFlow, AlreadyOpen, NotOpen, NoWords, NoTime, TooMuch, TooFar, SlotBeyond}
-use Rattle.rules.specs.Numbers.{number, Line, line, Refuses, Passes}
+use Rattle.rules.specs.Numbers.{number, Line, line, _then_, Refuses, Passes}
 
 -- ---- orders
 
@@ -31,11 +34,113 @@ passes-not (line ∷ rest) k p r = go p r (λ a b. passes-not rest k a b)
     go p (inl q) ih = p .0 (q .0)
     go p (inr q) ih = ih (p .1) (q .1)
 
+-- ---- an order in parts
+
+pub passes-then : (xs ys : List Line) → Passes xs → Passes ys → Passes (xs then ys)
+unfolding Passes
+passes-then [] ys p q = q
+passes-then (l ∷ xs) ys p q = (p .0, passes-then xs ys (p .1) q)
+
+pub passes-front : (xs ys : List Line) → Passes (xs then ys) → Passes xs
+unfolding Passes
+passes-front [] ys p = tt
+passes-front (l ∷ xs) ys p = (p .0, passes-front xs ys (p .1))
+
+pub passes-back : (xs ys : List Line) → Passes (xs then ys) → Passes ys
+unfolding Passes
+passes-back [] ys p = p
+passes-back (l ∷ xs) ys p = passes-back xs ys (p .1)
+
+-- a refusal of the first part is one of the whole
+pub ahead : (xs ys : List Line) (k : ℕ) → Refuses xs k → Refuses (xs then ys) k
+unfolding Refuses
+ahead [] ys k r = absurd r
+ahead (l ∷ xs) ys k r = go r (ahead xs ys k)
+  where
+    go : Refuses (l ∷ xs) k → (Refuses xs k → Refuses (xs then ys) k) → Refuses (l ∷ (xs then ys)) k
+    go (inl p) ih = inl p
+    go (inr p) ih = inr (p .0, ih (p .1))
+
+-- and one of the second part, behind what passed
+pub behind : (xs ys : List Line) (k : ℕ) → Passes xs → Refuses ys k → Refuses (xs then ys) k
+unfolding Passes Refuses
+behind [] ys k p r = r
+behind (l ∷ xs) ys k p r = inr (p .0, behind xs ys k (p .1) r)
+
+-- what is refused behind a part that passed is refused by the second part
+pub past : (xs ys : List Line) (k : ℕ) → Passes xs → Refuses (xs then ys) k → Refuses ys k
+unfolding Passes Refuses
+past [] ys k p r = r
+past (l ∷ xs) ys k p r = go r (past xs ys k (p .1))
+  where
+    go : Refuses (l ∷ (xs then ys)) k → (Refuses (xs then ys) k → Refuses ys k) → Refuses ys k
+    go (inl q) ih = absurd (p .0 (q .0))
+    go (inr q) ih = ih (q .1)
+
+-- ---- a line by its number, wherever it stands
+
+abbrev pub pick : Bool → Type 0 → Type 0 → Type 0
+pick true P Q = P
+pick false P Q = Q
+
+-- when the line of number k is given
+abbrev pub Given : List Line → ℕ → Type 0
+Given [] k = ⊥
+Given (l ∷ rest) k = pick (eqb (l .no) k) (l .given) (Given rest k)
+
+-- the lines before that of number k
+abbrev pub before : List Line → ℕ → List Line
+before [] k = []
+before (l ∷ rest) k = cond (eqb (l .no) k) [] (l ∷ before rest k)
+
+-- an order that passes does not give k
+pub passed : (order : List Line) (k : ℕ) → Passes order → ¬ Given order k
+unfolding Passes
+passed [] k p g = g
+passed (l ∷ rest) k p g = at (eqb (l .no) k) g (passed rest k (p .1))
+  where
+    at : (b : Bool) → pick b (l .given) (Given rest k) → (Given rest k → ⊥) → ⊥
+    at true g ih = p .0 g
+    at false g ih = ih g
+
+-- k is refused where the lines before it pass and it is given
+pub first : (order : List Line) (k : ℕ) → Passes (before order k) → Given order k → Refuses order k
+unfolding Passes Refuses
+first [] k p g = g
+first (l ∷ rest) k p g = at (eqb (l .no) k) refl p g (first rest k)
+  where
+    at : (b : Bool) → eqb (l .no) k ≡ b → Passes (cond b [] (l ∷ before rest k)) → pick b (l .given) (Given rest k)
+        → (Passes (before rest k) → Given rest k → Refuses rest k) → Refuses (l ∷ rest) k
+    at true e p g ih = inl (g, sym (eqb-true (l .no) k e))
+    at false e p g ih = inr (p .0, ih (p .1) g)
+
+-- the lines up to that of number k: those before the next one
+abbrev pub upto : List Line → ℕ → List Line
+upto [] k = []
+upto (l ∷ rest) k = l ∷ cond (eqb (l .no) k) [] (upto rest k)
+
+-- one more line passes
+pub more : (order : List Line) (k : ℕ) → Passes (before order k) → ¬ Given order k → Passes (upto order k)
+unfolding Passes
+more [] k p g = tt
+more (l ∷ rest) k p g = at (eqb (l .no) k) p g (more rest k)
+  where
+    at : (b : Bool) → Passes (cond b [] (l ∷ before rest k)) → ¬ (pick b (l .given) (Given rest k))
+        → (Passes (before rest k) → ¬ Given rest k → Passes (upto rest k)) → Passes (l ∷ cond b [] (upto rest k))
+    at true p g ih = (g, tt)
+    at false p g ih = (p .0, ih (p .1) g)
+
+-- nothing stands before the first line
+pub none-before : Passes []
+unfolding Passes
+none-before = tt
+
 -- the refusal of each number
 numbered : ℕ → Refusal
 numbered k =
     getD
-    (BadWheel ∷ BadTable ∷ BadList ∷ Disagree ∷ PathLength ∷ NoChannel ∷ ChannelTwice ∷ NoFlow ∷ AlreadyOpen ∷ NotOpen ∷ NoWords ∷ NoTime ∷ TooMuch ∷ TooFar ∷ SlotBeyond ∷ [])
+    (BadWheel ∷ BadTable ∷ BadList ∷ Disagree ∷ PathLength ∷ NoChannel ∷ ChannelTwice ∷
+    NoFlow ∷ AlreadyOpen ∷ NotOpen ∷ NoWords ∷ NoTime ∷ TooMuch ∷ TooFar ∷ SlotBeyond ∷ [])
     (k - 1)
     BadWheel
 
@@ -101,3 +206,11 @@ passes-alike [] [] a p = p
 passes-alike [] (m ∷ ms) a p = absurd a
 passes-alike (l ∷ ls) [] a p = absurd a
 passes-alike (l ∷ ls) (m ∷ ms) a p = (λ g. p .0 (a .2 g), passes-alike ls ms (a .3 (p .0)) (p .1))
+
+-- orders in parts: the second parts need be alike only where the first passes
+pub alike-then : (xs ys us vs : List Line) → Alike xs us → (Passes xs → Alike ys vs) → Alike (xs then ys) (us then vs)
+unfolding Alike Passes
+alike-then [] ys [] vs a b = b tt
+alike-then [] ys (u ∷ us) vs a b = absurd a
+alike-then (x ∷ xs) ys [] vs a b = absurd a
+alike-then (x ∷ xs) ys (u ∷ us) vs a b = (a .0, a .1, a .2, λ n. alike-then xs ys us vs (a .3 n) (λ p. b (n, p)))

@@ -44,7 +44,7 @@ pub closed-own : (chip : Chip) → Own chip (closedRecord .state) closedRecord
 unfolding closedRecord Own
 closed-own chip = record { len = refl; slots = refl; path = trimmed-rest [] 0 }
 
-module _ (chip : Chip) (t t′ : List ℕ) (n : ℕ) (list : List Record) (f : ℕ) (legal : Legal (chip .wheel)) (tabled : Tabled chip t)
+module _ (chip : Chip) (t t′ : List ℕ) (n : ℕ) (list : List Record) (f : ℕ) (legal : Legal (chip .wheel)) (tabled : Tabled (chip .channels) t)
     (fits : n ≤ length list) (at-f : f < n) (agree : Agree chip t n list) where
   -- record f becomes r: r's cells were 0 or the old record's and hold f's number now, the old record's other cells are 0
   pub replaced-agree : (r : Record) → Own chip (r .state) r

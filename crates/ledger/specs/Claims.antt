@@ -18,7 +18,7 @@ use Rattle.rules.specs.Paths.{Chip, cell, shift, seen, usable, free, freeSlots,
 use Rattle.rules.specs.Flows.{claiming, takes, Own}
 use Rattle.laws.specs.Logic.{not-both, and-true, le-or-lt}
 use Rattle.laws.specs.Search.{any-find, any-yes, all-each}
-use Rattle.laws.specs.Sets.{has-set, has-set-over, set-below}
+use Rattle.laws.specs.Sets.{has-set, set-below}
 
 -- ---- a slot as a channel sees it
 
@@ -83,7 +83,7 @@ module _ (chip : Chip) (path : List ℕ) (m x c j : ℕ) where
       (rw (eq-eqb _ _ (k .here)) (any-yes _ (chip .wheel .n) (k .slot) (k .on-wheel) (rw (k .chosen) (eq-eqb _ _ (k .there)))))
 
   -- claimed cells are cells of the chip, below N
-  pub claim-inside : 1 ≤ chip .wheel .n → Inside chip path m → claims chip path m x c j ≡ true → (c < chip .channels) × (j < chip .wheel .n)
+  pub claim-inside : 1 ≤ chip .wheel .n → Inside (chip .channels) path m → claims chip path m x c j ≡ true → (c < chip .channels) × (j < chip .wheel .n)
   claim-inside n1 inside e =
       let k = claim-found e in (
         omega (arith, inside .at (k .position) (k .on-path), k .here),
@@ -120,10 +120,6 @@ module _ (chip : Chip) (t path : List ℕ) (m : ℕ) where
   pub has-free : (s : ℕ) → s < chip .wheel .n → has (freeSlots chip t path m) s ≡ free chip t path m s
   unfolding freeSlots
   has-free s h = has-set (free chip t path m) (chip .wheel .n) 0 s h ∙ ap (free chip t path m) (zero-add s)
-
-  pub has-free-over : (s : ℕ) → chip .wheel .n ≤ s → has (freeSlots chip t path m) s ≡ false
-  unfolding freeSlots
-  has-free-over s h = has-set-over (free chip t path m) (chip .wheel .n) 0 s h
 
   pub free-below : Below (chip .wheel .n) (freeSlots chip t path m)
   unfolding freeSlots

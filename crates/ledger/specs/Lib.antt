@@ -4,4 +4,6 @@ pub mod Stamps
 pub mod Agreement
 pub mod Sums
 pub mod Totals
+pub mod Lines
+pub mod NewFlow
 pub mod Calls

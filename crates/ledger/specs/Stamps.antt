@@ -111,7 +111,8 @@ module _ (chip : Chip) (path : List ℕ) (x v : ℕ) (t₀ t : List ℕ) (i : �
       → new ≡ cond (claims chip path (i + 1) x c j) v (cell t₀ c j)
   unfolding claims
   stamp-cell c j y new h g f =
-      rw any-more (f ∙ go (any (λ i. eqb (getD path i 0) c && reached chip path x i j (chip .wheel .n)) i) (eqb (getD path i 0) c) (reached chip path x i j (chip .wheel .n)) refl h g)
+      rw any-more (f ∙ go (any (λ i. eqb (getD path i 0) c && reached chip path x i j (chip .wheel .n)) i)
+      (eqb (getD path i 0) c) (reached chip path x i j (chip .wheel .n)) refl h g)
     where
       both : (b r : Bool) → cell t c j ≡ cond b v (cell t₀ c j) → y ≡ cond r v (cell t c j) → y ≡ cond (b || r) v (cell t₀ c j)
       both true true h g = g

@@ -13,12 +13,14 @@ use lib.Dec.{eqb}
 use borrow.Author.Tests.{eq-eqb, ne-eqb, eqb-true}
 use Rattle.rules.specs.declared.State.{State}
 use Rattle.rules.specs.declared.State.the-variants.{Closed, Open}
+use Rattle.rules.specs.declared.Wheel.{Wheel}
 use Rattle.rules.specs.declared.Record.{Record}
 use Rattle.rules.specs.Sets.{has, any, sum}
-use Rattle.rules.specs.Wheels.{Legal, chosen, size}
+use Rattle.rules.specs.Wheels.{Legal, size}
 use Rattle.rules.specs.Paths.{Chip, cell, seen, reached, claims, Inside, Once}
 use Rattle.rules.specs.Flows.{flow, claiming, Own, takes, Agree, freeCells, cellsOf, heldCells}
 use Rattle.rules.specs.Orders.{Tabled}
+use Rattle.laws.specs.Bounds.{size-most}
 use Rattle.laws.specs.Logic.{not-both, not-true-false, and-true}
 use Rattle.laws.specs.Search.{any-find, any-yes}
 use Rattle.laws.specs.Turns.{chosen-below}
@@ -36,20 +38,12 @@ usedCells t = sum (λ i. used (getD t i 0)) 0 (length t)
 
 -- ---- the cells of one record
 
-pub size-most : (N x : ℕ) → size N x ≤ N
-unfolding size
-size-most N x = omega (arith, sum-le (λ i. bit (chosen N x i)) (λ i. 1) N (λ i h. one (chosen N x i)), sum-const 1 N, one-mul N)
-  where
-    one : (b : Bool) → bit b ≤ 1
-    one true = omega arith
-    one false = omega arith
-
-pub cells-most : (chip : Chip) (r : Record) → chip .wheel .n ≤ 64 → r .len ≤ 16 → cellsOf chip r ≤ 1024
+pub cells-most : (w : Wheel) (r : Record) → w .n ≤ 64 → r .len ≤ 16 → cellsOf w r ≤ 1024
 unfolding cellsOf
-cells-most chip r n64 fits = go (claiming (r .state))
+cells-most w r n64 fits = go (claiming (r .state))
   where
-    go : (b : Bool) → cond b (size (chip .wheel .n) (r .slots) * r .len) 0 ≤ 1024
-    go true = mul-le-mul (le-trans (size-most (chip .wheel .n) (r .slots)) n64) fits
+    go : (b : Bool) → cond b (size (w .n) (r .slots) * r .len) 0 ≤ 1024
+    go true = mul-le-mul (le-trans (size-most (w .n) (r .slots)) n64) fits
     go false = omega arith
 
 module _ (chip : Chip) (legal : Legal (chip .wheel)) where
@@ -78,7 +72,7 @@ module _ (chip : Chip) (legal : Legal (chip .wheel)) where
       each s false = sum-zero (λ j. 0) N (λ j h. refl)
 
   -- a path without repeats claims as many cells as slots times channels
-  path-claims : (path : List ℕ) (m x : ℕ) → Inside chip path m → Once path m
+  path-claims : (path : List ℕ) (m x : ℕ) → Inside (chip .channels) path m → Once path m
       → sum (λ c. sum (λ j. bit (claims chip path m x c j)) 0 (chip .wheel .n)) 0 (chip .channels) ≡ size (chip .wheel .n) x * m
   unfolding claims
   path-claims path m x inside once =
@@ -105,7 +99,7 @@ module _ (chip : Chip) (legal : Legal (chip .wheel)) where
       row i false = sum-zero (λ j. 0) N (λ j h. refl)
 
   pub cells-claimed : (r : Record) → Own chip (r .state) r
-      → sum (λ c. sum (λ j. bit (takes chip r c j)) 0 (chip .wheel .n)) 0 (chip .channels) ≡ cellsOf chip r
+      → sum (λ c. sum (λ j. bit (takes chip r c j)) 0 (chip .wheel .n)) 0 (chip .channels) ≡ cellsOf (chip .wheel) r
   unfolding takes cellsOf Own claiming
   cells-claimed r own = go (r .state) own
     where
@@ -121,7 +115,7 @@ module _ (chip : Chip) (legal : Legal (chip .wheel)) where
 pub record Counted (chip : Chip) (t : List ℕ) (n : ℕ) (list : List Record) : Type 0 where
   pub own : (f : ℕ) → f < n → Own chip (flow list f .state) (flow list f)
   pub held : (f c j : ℕ) → f < n → takes chip (flow list f) c j ≡ true → cell t c j ≡ f + 1
-  pub total : usedCells t ≡ heldCells chip n list
+  pub total : usedCells t ≡ heldCells (chip .wheel) n list
 
 module _ (chip : Chip) (t : List ℕ) (n : ℕ) (list : List Record) (legal : Legal (chip .wheel)) where
   -- how many flows claim a cell
@@ -129,7 +123,7 @@ module _ (chip : Chip) (t : List ℕ) (n : ℕ) (list : List Record) (legal : Le
   owners c j = sum (λ f. bit (takes chip (flow list f) c j)) 0 n
 
   module _ (own : (f : ℕ) → f < n → Own chip (flow list f .state) (flow list f)) where
-    owners-held : sum (λ c. sum (owners c) 0 (chip .wheel .n)) 0 (chip .channels) ≡ heldCells chip n list
+    owners-held : sum (λ c. sum (owners c) 0 (chip .wheel .n)) 0 (chip .channels) ≡ heldCells (chip .wheel) n list
     unfolding heldCells
     owners-held =
         sum-each _ _ (chip .channels) (λ c h. sum-swap (λ j f. bit (takes chip (flow list f) c j)) (chip .wheel .n) n)
@@ -137,7 +131,7 @@ module _ (chip : Chip) (t : List ℕ) (n : ℕ) (list : List Record) (legal : Le
         ∙ sum-each _ _ n (λ f h. cells-claimed chip legal (flow list f) (own f h))
 
     -- no flow claims a cell from N on, so that whole rows may be counted
-    rows-held : sum (λ c. sum (owners c) 0 64) 0 (chip .channels) ≡ heldCells chip n list
+    rows-held : sum (λ c. sum (owners c) 0 64) 0 (chip .channels) ≡ heldCells (chip .wheel) n list
     rows-held =
         sum-each _ _ (chip .channels)
         (λ c h. sum-cut (owners c) (chip .wheel .n) 64 (legal .n64) (λ j l. sum-zero _ n (λ f k. ap bit (not-true-false _ (beyond c j f k l)))))
@@ -184,7 +178,7 @@ module _ (chip : Chip) (t : List ℕ) (n : ℕ) (list : List Record) (legal : Le
   agree-owners agree c j h k = owners-are-used (agree .held) c j (agree .others c j h k)
 
   -- the report: free and held cells make up all cells
-  pub free-and-held : Agree chip t n list → freeCells chip t + heldCells chip n list ≡ chip .channels * chip .wheel .n
+  pub free-and-held : Agree chip t n list → freeCells chip t + heldCells (chip .wheel) n list ≡ chip .channels * chip .wheel .n
   unfolding freeCells
   free-and-held agree =
       ap (λ h. sum (λ c. sum (λ j. bit (eqb (cell t c j) 0)) 0 (chip .wheel .n)) 0 (chip .channels) + h) (sym (owners-held (agree .own)))
@@ -206,7 +200,7 @@ module _ (chip : Chip) (t : List ℕ) (n : ℕ) (list : List Record) (legal : Le
           ∙ sum-const 1 (chip .wheel .n)
           ∙ one-mul (chip .wheel .n)
 
-  module _ (tabled : Tabled chip t) where
+  module _ (tabled : Tabled (chip .channels) t) where
     rows-used : usedCells t ≡ sum (λ c. sum (λ j. used (cell t c j)) 0 64) 0 (chip .channels)
     unfolding usedCells cell
     rows-used = ap (sum (λ i. used (getD t i 0)) 0) (tabled .long) ∙ sum-rows (λ i. used (getD t i 0)) (chip .channels)

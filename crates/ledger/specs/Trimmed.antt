@@ -11,8 +11,8 @@ use lib.Seq.{ext-getD}
 use lib.Dec.{eqb, ltb}
 use borrow.Author.Tests.{lt-ltb, le-ltb, ltb-true, ltb-false}
 use Rattle.rules.specs.Sets.{listOf}
-use Rattle.rules.specs.Paths.{Chip, shift, travel, allowed, seen, reached, claims, Inside, Once, Rest}
-use Rattle.rules.specs.Promises.{trimmed}
+use Rattle.rules.specs.Paths.{Chip, shift, travel, allowed, seen, reached, claims, Inside, Once, Rest, trimmed}
+use Rattle.laws.specs.Counting.{list-length}
 use Rattle.laws.specs.Search.{any-same}
 
 -- ---- paths with the same first m entries
@@ -42,7 +42,7 @@ module _ (chip : Chip) {path other : List ℕ} (m : ℕ) (alike : Alike path oth
   claims-alike x c j =
       any-same _ _ m λ i h. rw (alike .at i h) (ap (λ b. eqb (getD other i 0) c && b) (any-same _ _ (chip .wheel .n) λ s l. rw (seen-alike i s h)))
 
-  pub inside-alike : Inside chip path m → Inside chip other m
+  pub inside-alike : Inside (chip .channels) path m → Inside (chip .channels) other m
   inside-alike inside = record { at = λ i h. omega (arith, alike .at i h, inside .at i h) }
 
   pub once-alike : Once path m → Once other m
@@ -60,11 +60,6 @@ entry : (path : List ℕ) (m i : ℕ) → i < 16 → getD (trimmed path m) i 0 �
 unfolding trimmed
 entry path m i h = list-at _ 16 0 i h ∙ ap (λ k. cond (ltb k m) (getD path k 0) 0) (zero-add i)
 
-list-length : (f : ℕ → ℕ) (m i : ℕ) → length (listOf f i m) ≡ m
-unfolding listOf
-list-length f zero i = refl
-list-length f (suc m) i = ap suc (list-length f m (suc i))
-
 -- sixteen entries, those from m on zero, and the others those of the path
 pub trimmed-is : (path p : List ℕ) (m : ℕ) → length p ≡ 16 → ((i : ℕ) → i < m → getD p i 0 ≡ getD path i 0) → Rest p m → p ≡ trimmed path m
 unfolding trimmed
@@ -81,3 +76,7 @@ trimmed-alike path m fits =
 
 pub trimmed-rest : (path : List ℕ) (m : ℕ) → Rest (trimmed path m) m
 trimmed-rest path m = record { at = λ i l h. entry path m i h ∙ ap (λ b. cond b (getD path i 0) 0) (le-ltb i m l) }
+
+pub trimmed-long : (path : List ℕ) (m : ℕ) → length (trimmed path m) ≡ 16
+unfolding trimmed
+trimmed-long path m = list-length _ 16 0

@@ -1,9 +1,10 @@
 -- What every walk cites of the types that it meets: a type's row with its machine value and its laws, as one record.
---     Known            a plain type of one machine value: its row, the value, that the row tells it, that what it owns is had for nothing, that the value is of the row's MIR type, and that it is seen at exit as it was passed
+--     Known            a plain type of one machine value: its row, the value, that the row tells it, that what it owns is had
+--                      for nothing, that the value is of the row's MIR type, and that it is seen at exit as it was passed
 --     builtin, struct, enum      these of a built-in type or an array, of a struct and of an enum
---     Rec, record-row, copies, offset-fits      the record's row, with what a read of one record in a row of them takes
+--     Rec, copies, record-size, offset-fits      the record's row, with what a read of one record in a row of them takes
 -- Assumes nothing.
-use mathlib.Core.Path.{_≡_, refl}
+use mathlib.Core.Path.{_≡_}
 use Prim.Native.Nat.{ℕ, _<_, _^_, _*_}
 use native.Mathlib.Omega.{arith}
 use mathlib.Core.List.{[], _∷_}
@@ -16,7 +17,6 @@ use denote.RattleType.{RattleType}
 use denote.Exit.{yes, unchanged}
 use denote.Shadow.{makes-shadow}
 use denote.Laws.{Is, Tells, Typed, Copy, Makes}
-use denote.Memory.{mem}
 use denote.Slice.{Room}
 use denote.Struct.Field.{Field, u16-field, u64-field, bool-field, unit-field, array-field}
 use denote.Struct.Struct.{Plains}
@@ -82,7 +82,8 @@ module _ {M : Type 1} (𝓤 : URA M) (H : Heap 𝓤) (A : Atoms 𝓤) (G : Given
   unit = builtin unit-field SL.unit-laws SL.unit-plain SL.unit-copy
 
   abbrev pub path : Known 𝓤 H A
-  path = builtin (array-field u16-field 16) (SL.array-laws u16-field SL.u16-laws 16) (SL.array-plain u16-field SL.u16-plain 16) (SL.array-copy u16-field SL.u16-copy 16)
+  path = builtin (array-field u16-field 16) (SL.array-laws u16-field SL.u16-laws 16)
+      (SL.array-plain u16-field SL.u16-plain 16) (SL.array-copy u16-field SL.u16-copy 16)
 
   -- and its structs
   abbrev pub wheel : Known 𝓤 H A
@@ -101,12 +102,13 @@ module _ {M : Type 1} (𝓤 : URA M) (H : Heap 𝓤) (A : Atoms 𝓤) (G : Given
 abbrev pub Rec : RattleType
 Rec = R.the-row
 
-pub size-is : mem Rec .size ≡ 56
-size-is = refl
+-- a record's size in memory, in bytes: the one place that a new field changes
+abbrev pub record-size : ℕ
+record-size = 56
 
 -- the offset of an element fits
-pub offset-fits : (i n : ℕ) → i < n → Room Rec n → i * 56 < 2 ^ 64
+pub offset-fits : (i n : ℕ) → i < n → Room Rec n → i * record-size < 2 ^ 64
 offset-fits i n l room = below i n l (room .1)
   where
-    below : (i n : ℕ) → i < n → n * 56 < 2 ^ 63 → i * 56 < 2 ^ 64
+    below : (i n : ℕ) → i < n → n * record-size < 2 ^ 63 → i * record-size < 2 ^ 64
     below i n l r = omega (arith, l, r)

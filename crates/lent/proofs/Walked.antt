@@ -1,4 +1,6 @@
--- From the walk of a function's body to its contract, for the shapes of `Callee.antt`. A walk begins with its slices alone in the context, one entry each, and ends with them and a result for which the contract holds; what a signature wants beside that is the same for every function, and is shown here of its plain parameters, and below of its slices.
+-- From the walk of a function's body to its contract, for the shape of `Slices.antt`. A walk begins with its slices alone in
+-- the context, one entry each, and ends with them and a result for which the contract holds; what a signature wants beside that
+-- is the same for every function, and is shown here of its plain parameters, and in `Walked/Over.antt` of its slices.
 --     handle-of        a slice that was passed, as a walk has it
 --     stays, go        what is had of the plain parameters at exit, and that it is let go
 --     spells, tells, passed-is, good       their machine values, and what is known of them at entry
@@ -26,10 +28,7 @@ use denote.Triple.Walked.{Stays, fitsOf, hasOf, stay-none, AllGo, goes-none}
 use Rattle.lent.proofs.Rows.{Known}
 use Rattle.lent.proofs.Callee.{Good, spelled, slots, values}
 use Rattle.lent.proofs.Loans.{Handle}
-pub mod BothLent
-pub mod BothShown
-pub mod Lent
-pub mod Shown
+pub mod Over
 
 -- ---- the plain parameters
 -- nothing is said of a value that is seen as it was passed
@@ -58,11 +57,13 @@ module _ {M : Type 1} {𝓤 : URA M} {H : Heap 𝓤} {A : Atoms 𝓤} (n : ℕ) 
     tells (k ∷ ks) = (k .tells, tells ks)
 
     -- the machine values, and what is known of the values
-    pub passed-is : (ks : List (Known 𝓤 H A)) (x : Denots (typesAt {n = n} (slots ks) κs)) → flat (typesAt {n = n} (slots ks) κs) (laws.valss (typesAt {n = n} (slots ks) κs) (spells ks) x) ≡ spelled ks (values n ks κs x)
+    pub passed-is : (ks : List (Known 𝓤 H A)) (x : Denots (typesAt {n = n} (slots ks) κs))
+        → flat (typesAt {n = n} (slots ks) κs) (laws.valss (typesAt {n = n} (slots ks) κs) (spells ks) x) ≡ spelled ks (values n ks κs x)
     passed-is [] x = refl
     passed-is (k ∷ ks) x = λ i. k .val (x .0) ∷ passed-is ks (x .1) i
 
-    pub good : (ks : List (Known 𝓤 H A)) (x : Denots (typesAt {n = n} (slots ks) κs)) → Are (typesAt {n = n} (slots ks) κs) (Ises (typesAt {n = n} (slots ks) κs)) x (laws.valss (typesAt {n = n} (slots ks) κs) (spells ks) x) → Good ks (values n ks κs x)
+    pub good : (ks : List (Known 𝓤 H A)) (x : Denots (typesAt {n = n} (slots ks) κs)) → Are (typesAt {n = n} (slots ks) κs)
+        (Ises (typesAt {n = n} (slots ks) κs)) x (laws.valss (typesAt {n = n} (slots ks) κs) (spells ks) x) → Good ks (values n ks κs x)
     good [] x are = tt
     good (k ∷ ks) x are = (are .0, good ks (x .1) (are .1))
 
@@ -75,7 +76,8 @@ module _ {M : Type 1} {𝓤 : URA M} {H : Heap 𝓤} {A : Atoms 𝓤} (n : ℕ) 
     fits [] x = tt
     fits (k ∷ ks) x = (tt, fits ks (x .1))
 
-    pub had : (ks : List (Known 𝓤 H A)) (x : Denots (typesAt {n = n} (slots ks) κs)) → Good ks (values n ks κs x) → ent 𝓤 (emp 𝓤) (sem 𝓤 H A (hasOf κs (slots ks) (all yes (slots ks)) (stays ks) x (lasts ks x) (laws.valss (typesAt {n = n} (slots ks) κs) (spells ks) x)))
+    pub had : (ks : List (Known 𝓤 H A)) (x : Denots (typesAt {n = n} (slots ks) κs)) → Good ks (values n ks κs x) → ent 𝓤 (emp 𝓤)
+        (sem 𝓤 H A (hasOf κs (slots ks) (all yes (slots ks)) (stays ks) x (lasts ks x) (laws.valss (typesAt {n = n} (slots ks) κs) (spells ks) x)))
     had [] x g = id⊢ 𝓤 (emp 𝓤)
     had (k ∷ ks) x g = via 𝓤 (sep 𝓤 (emp 𝓤) (emp 𝓤)) (emp∗ 𝓤 (emp 𝓤)) (mono∗ 𝓤 (k .makes (x .0) (k .val (x .0) ∷ []) (g .0)) (had ks (x .1) (g .1)))
 

@@ -130,7 +130,8 @@ module _ (t : Task) (good : Sound t) where
   hs : H t ≤ S t
   hs = omega (arith, good .legal .h)
 
-  paid-pick : (fs xs : List Bool) → N t ≡ suc (length fs) → Pick (L t) 1 fs xs → Paid t (suc (leading fs)) (suc (count xs)) (slotWords t 0 + line (t .wheel) (phase t 0) xs)
+  paid-pick : (fs xs : List Bool) → N t ≡ suc (length fs) → Pick (L t) 1 fs xs
+      → Paid t (suc (leading fs)) (suc (count xs)) (slotWords t 0 + line (t .wheel) (phase t 0) xs)
   unfolding fee
   paid-pick fs xs e p =
       let p1 = good .legal .p1 in

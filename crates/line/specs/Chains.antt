@@ -67,7 +67,8 @@ module _ {m e : ℕ → ℕ} {t J : ℕ} (c : Chain m e t J) where
 
   pub peak-next : (v q : ℕ) → Peak v q → q < t → m (q + 1) < v
   peak-next v q p h =
-      less v (p .end) (t - (q + 1)) (q + 1) (omega arith) (omega arith) (omega (arith, falls 1 (q + 1) (omega arith) (omega arith) (omega arith), p .top)) (λ k a b. p .past k (omega arith) b)
+      less v (p .end) (t - (q + 1)) (q + 1) (omega arith) (omega arith) (omega (arith, falls 1 (q + 1) (omega arith) (omega arith) (omega arith), p .top))
+      (λ k a b. p .past k (omega arith) b)
 
   pub peak-end : (v q : ℕ) → Peak v q → J < v
   peak-end v q p = lt-of-ne (omega (arith, c .last, falls 1 t (omega arith) (c .one) (omega arith), p .top)) (p .end)

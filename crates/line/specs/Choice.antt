@@ -103,7 +103,10 @@ module _ (t : Task) (s : ℕ) where
       let m : (q + 1) * S t - H t ≡ q * S t - H t + S t = omega (arith, mul-le-mul-right (S t) h) in
       rw (j, l, m)
       (sym (raised-twice (packetWords t q) (S t) _)
-      ∙ ap (raised (packetWords t q)) (sym (took-some (opens t s (p + q)) (k - q) (slotWords t q) _ e (omega arith) ∙ ap₂ (λ g r. raised g (worth t (ahead t s (p + q + 1)) 1 r (pred (k - q)))) (sym (gain-later (S t) (H t) q λ z. omega arith)) (ap (λ i. i % P t) (sym (add-one q))))))
+      ∙ ap (raised (packetWords t q))
+      (sym (took-some (opens t s (p + q)) (k - q) (slotWords t q) _ e (omega arith)
+      ∙ ap₂ (λ g r. raised g (worth t (ahead t s (p + q + 1)) 1 r (pred (k - q))))
+      (sym (gain-later (S t) (H t) q λ z. omega arith)) (ap (λ i. i % P t) (sym (add-one q))))))
 
   went-more : (p k q : ℕ) → H t ≤ S t → 1 ≤ q → q < P t → p + q < N t → q < k → opens t s (p + q) ≡ true
       → raised (packetWords t q) (tail t s (p + q - 1) (k - q)) ≤ mid t s p k (q + 1) → 0 < mid t s p k (q + 1)
@@ -128,7 +131,8 @@ module _ (t : Task) (s : ℕ) where
       greedy-off (p + q) 1 (q % P t) (k - q) b (prefers-not _ _ (⊎-elim (λ e. inl e) (λ l. inr (omega (arith, tail-is p k q h))) z))
 
   went-jump : (p k : ℕ) → 1 ≤ P t → p + P t < N t
-      → raised (packetWords t (P t)) (tail t s (p + P t - 1) (k - P t)) ≤ raised (packetWords t (P t)) (head t s (p + P t) (k - P t)) → 0 < raised (packetWords t (P t)) (head t s (p + P t) (k - P t))
+      → raised (packetWords t (P t)) (tail t s (p + P t - 1) (k - P t)) ≤ raised (packetWords t (P t)) (head t s (p + P t) (k - P t))
+      → 0 < raised (packetWords t (P t)) (head t s (p + P t) (k - P t))
       → went p k (P t) ≡ begun (p + P t) (k - P t)
   unfolding went begun head
   went-jump p k h b le lt =
@@ -214,7 +218,8 @@ module _ (t : Task) (good : Sound t) (s p k f : ℕ) (k1 : 1 ≤ k) (fr : FreeRu
         let all = through c v m1 j in
         let below : (i : ℕ) → 1 ≤ i → i ≤ top → packEnd t s p k i ≤ mid t s p k i = part c in
         run-of (P t) p1 (omega arith) (λ i x y. (all i x (omega arith), omega (arith, all i x (omega arith), below i x (omega arith))))
-        ∙ ap (λ l. bitsRun t s p (P t) + bitsOf t s (p + P t) l) (went-jump t s p k p1 (omega arith) (le (P t) (below (P t) p1 (omega arith)) (all (P t) p1 (omega arith)) j) (omega arith))
+        ∙ ap (λ l. bitsRun t s p (P t) + bitsOf t s (p + P t) l)
+        (went-jump t s p k p1 (omega arith) (le (P t) (below (P t) p1 (omega arith)) (all (P t) p1 (omega arith)) j) (omega arith))
       where
         le : (q : ℕ) → packEnd t s p k q ≤ mid t s p k q → mid t s p k q ≡ v → jump ≡ v → raised (packetWords t q) (tail t s (p + q - 1) (k - q)) ≤ jump
         le q x y j = omega (arith, pack-end t s p k q)
@@ -299,8 +304,11 @@ module _ (t : Task) (s e k w : ℕ) (k1 : 1 ≤ k) (some : 0 < w) where
       let st = reach-step t s e d k h (omega arith) a in
       let l : head t s d k < w = lt-of-ne (omega arith) ne in
       let q : reach t s e (d + 1) k ≡ w = omega arith in
-      let i : suc (d - e) ≡ d + 1 - e = omega arith in
-      (greedy-off t s d (d - e) 0 k (omega arith) (prefers-not _ _ (inr (omega (arith, reach-is d h)))) ∙ ap (λ g. false ∷ greedy t (ahead t s (d + 1)) g 0 k) i, q)
+      let i : suc (d - e) ≡ d + 1 - e = omega arith in (
+        greedy-off t s d (d - e) 0 k (omega arith) (prefers-not _ _ (inr (omega (arith, reach-is d h))))
+            ∙ ap (λ g. false ∷ greedy t (ahead t s (d + 1)) g 0 k) i,
+        q,
+      )
 
   gap-take : (d : ℕ) → e < d → reach t s e d k ≡ w → head t s d k ≡ w → gapped d ≡ begun t s d k
   unfolding head begun

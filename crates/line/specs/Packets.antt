@@ -202,8 +202,12 @@ module _ (t : Task) (s : ℕ) where
       rw q
   worth-done (f ∷ fs) g r = go (le-or-lt (L t) g) (worth-done fs (suc g) 0)
     where
-      go : (L t ≤ g) ⊎ (g < L t) → worth t fs (suc g) 0 0 ≡ orNone (leb (suc g + length fs) (L t)) 1 → max (took f 0 (slotWords t r) (worth t fs 1 (phase t r) 0)) (orNone (ltb g (L t)) (worth t fs (suc g) 0 0)) ≡ orNone (leb (g + suc (length fs)) (L t)) 1
-      go (inl a) ih = rw (le-ltb g (L t) a, lt-leb (g + suc (length fs)) (L t) (omega arith)) (omega (arith, took-zero f 0 (slotWords t r) (worth t fs 1 (phase t r) 0) refl))
+      go : (L t ≤ g) ⊎ (g < L t) → worth t fs (suc g) 0 0 ≡ orNone (leb (suc g + length fs) (L t)) 1
+          → max (took f 0 (slotWords t r) (worth t fs 1 (phase t r) 0))
+          (orNone (ltb g (L t)) (worth t fs (suc g) 0 0)) ≡ orNone (leb (g + suc (length fs)) (L t)) 1
+      go (inl a) ih =
+          rw (le-ltb g (L t) a, lt-leb (g + suc (length fs)) (L t) (omega arith))
+          (omega (arith, took-zero f 0 (slotWords t r) (worth t fs 1 (phase t r) 0) refl))
       go (inr a) ih =
           let q : suc g + length fs ≡ g + suc (length fs) = omega arith in
           rw (lt-ltb g (L t) a) (omega (arith, took-zero f 0 (slotWords t r) (worth t fs 1 (phase t r) 0) refl, rw q at ih))
@@ -226,10 +230,12 @@ module _ (t : Task) (s : ℕ) where
   worth-gap (f ∷ fs) g k h m =
       ap (λ v. max (took f k (slotWords t 0) (worth t fs 1 (phase t 0) (pred k))) v) (go (le-or-lt (L t) (suc g)) fs h (λ a. worth-gap fs (suc g) k a m))
     where
-      go : (L t ≤ suc g) ⊎ (suc g < L t) → (fs : List Bool) → g + length (f ∷ fs) ≤ L t → (suc g + length fs ≤ L t → worth t fs (suc g) 0 k ≡ worth t fs (suc (suc g)) 0 k)
+      go : (L t ≤ suc g) ⊎ (suc g < L t) → (fs : List Bool) → g + length (f ∷ fs) ≤ L t
+          → (suc g + length fs ≤ L t → worth t fs (suc g) 0 k ≡ worth t fs (suc (suc g)) 0 k)
           → orNone (ltb g (L t)) (worth t fs (suc g) 0 k) ≡ orNone (ltb (suc g) (L t)) (worth t fs (suc (suc g)) 0 k)
       go (inr a) fs h ih = rw (lt-ltb g (L t) (omega arith), lt-ltb (suc g) (L t) a) (ih (omega arith))
-      go (inl a) [] h ih = orNone-zero (ltb g (L t)) _ (worth-empty t (suc g) 0 k m) ∙ sym (orNone-zero (ltb (suc g) (L t)) _ (worth-empty t (suc (suc g)) 0 k m))
+      go (inl a) [] h ih =
+          orNone-zero (ltb g (L t)) _ (worth-empty t (suc g) 0 k m) ∙ sym (orNone-zero (ltb (suc g) (L t)) _ (worth-empty t (suc (suc g)) 0 k m))
       go (inl a) (x ∷ fs) h ih = absurd (omega arith)
 
   pub tail-far : (e k : ℕ) → e + 3 ≤ N t → N t ≤ e + L t + 1 → 2 < L t → 1 ≤ k → tail e k ≡ max (head (e + 2) k) (tail (e + 1) k)
@@ -240,7 +246,9 @@ module _ (t : Task) (s : ℕ) where
       skip-some (ahead (e + 2)) 1 k (omega arith) ∙ worth-at (e + 2) 2 0 k (omega arith)
       ∙ ap (max (taking t (opens t s (e + 2)) (ahead (e + 2 + 1)) 0 k))
       (rw (a, b)
-      (skip-some (ahead (e + 3)) 2 k l ∙ sym (worth-gap (ahead (e + 3)) 2 k (omega (arith, flags-length (opens t s) (e + 3) (N t - (e + 3)))) m) ∙ sym (skip-some (ahead (e + 3)) 1 k (omega arith))))
+      (skip-some (ahead (e + 3)) 2 k l
+      ∙ sym (worth-gap (ahead (e + 3)) 2 k (omega (arith, flags-length (opens t s) (e + 3) (N t - (e + 3)))) m)
+      ∙ sym (skip-some (ahead (e + 3)) 1 k (omega arith))))
 
   -- ---- the head: a packet of 1 to P slots
 
@@ -267,8 +275,11 @@ module _ (t : Task) (s : ℕ) where
       rw (i, j, l, m, mod-eq-of-lt a)
       (ap (raised (packetWords t q)) (worth-at (p + q) 1 q (k - q) b ∙ max-comm _ _
       ∙ ap (max (skipping t (ahead (p + q + 1)) 1 (k - q)))
-      (took-some (opens t s (p + q)) (k - q) (slotWords t q) _ e (omega arith) ∙ ap₂ (λ g r. raised g (worth t (ahead (p + q + 1)) 1 r (pred (k - q)))) (sym (gain-later (S t) (H t) q λ z. omega arith)) (ap (λ i. i % P t) (sym (add-one q)))))
-      ∙ raised-max (packetWords t q) _ _ ∙ ap (max (raised (packetWords t q) (skipping t (ahead (p + q + 1)) 1 (k - q)))) (raised-twice (packetWords t q) (S t) _))
+      (took-some (opens t s (p + q)) (k - q) (slotWords t q) _ e (omega arith)
+      ∙ ap₂ (λ g r. raised g (worth t (ahead (p + q + 1)) 1 r (pred (k - q))))
+      (sym (gain-later (S t) (H t) q λ z. omega arith)) (ap (λ i. i % P t) (sym (add-one q)))))
+      ∙ raised-max (packetWords t q) _ _
+      ∙ ap (max (raised (packetWords t q) (skipping t (ahead (p + q + 1)) 1 (k - q)))) (raised-twice (packetWords t q) (S t) _))
 
   -- the packet ends here: the next slot is shut, or no slot is left to take
   pub mid-stop : (p k q : ℕ) → 1 ≤ q → p + q < N t → (opens t s (p + q) ≡ false) ⊎ (k ≡ q)
@@ -278,10 +289,15 @@ module _ (t : Task) (s : ℕ) where
       let i : p + q - 1 + 2 ≡ p + q + 1 = omega arith in
       rw i (ap (raised (packetWords t q)) (worth-at (p + q) 1 (q % P t) (k - q) b ∙ go z))
     where
-      go : (opens t s (p + q) ≡ false) ⊎ (k ≡ q) → max (took (opens t s (p + q)) (k - q) (slotWords t (q % P t)) (worth t (ahead (p + q + 1)) 1 (phase t (q % P t)) (pred (k - q)))) (skipping t (ahead (p + q + 1)) 1 (k - q))
+      go : (opens t s (p + q) ≡ false) ⊎ (k ≡ q)
+          → max (took (opens t s (p + q)) (k - q) (slotWords t (q % P t)) (worth t (ahead (p + q + 1)) 1 (phase t (q % P t)) (pred (k - q))))
+          (skipping t (ahead (p + q + 1)) 1 (k - q))
           ≡ skipping t (ahead (p + q + 1)) 1 (k - q)
-      go (inl e) = omega (arith, took-shut (opens t s (p + q)) (k - q) (slotWords t (q % P t)) (worth t (ahead (p + q + 1)) 1 (phase t (q % P t)) (pred (k - q))) e)
-      go (inr e) = omega (arith, took-zero (opens t s (p + q)) (k - q) (slotWords t (q % P t)) (worth t (ahead (p + q + 1)) 1 (phase t (q % P t)) (pred (k - q))) (omega arith))
+      go (inl e) =
+          omega (arith, took-shut (opens t s (p + q)) (k - q) (slotWords t (q % P t)) (worth t (ahead (p + q + 1)) 1 (phase t (q % P t)) (pred (k - q))) e)
+      go (inr e) =
+          let none : k - q ≡ 0 = omega arith in
+          omega (arith, took-zero (opens t s (p + q)) (k - q) (slotWords t (q % P t)) (worth t (ahead (p + q + 1)) 1 (phase t (q % P t)) (pred (k - q))) none)
 
   -- the packet is full: the next one begins, or the run ends
   pub mid-full : (p k : ℕ) → 1 ≤ P t → p + P t < N t
@@ -294,7 +310,9 @@ module _ (t : Task) (s : ℕ) where
 
   pub head-most : (p k : ℕ) → head p k ≤ suc (k * S t)
   unfolding head taking
-  head-most p k = took-most (S t) (opens t s p) k (slotWords t 0) (worth t (ahead (p + 1)) 1 (phase t 0) (pred k)) (gain-most (S t) (H t) 0) (worth-most t (ahead (p + 1)) 1 (phase t 0) (pred k))
+  head-most p k =
+      took-most (S t) (opens t s p) k (slotWords t 0) (worth t (ahead (p + 1)) 1 (phase t 0) (pred k))
+      (gain-most (S t) (H t) 0) (worth-most t (ahead (p + 1)) 1 (phase t 0) (pred k))
 
   pub tail-most : (e k : ℕ) → tail e k ≤ suc (k * S t)
   unfolding tail skipping

@@ -69,7 +69,7 @@ pub record NextHead (hd : List ℕ) (k from end w r : ℕ) : Type 0 where
   pub hit : r < end → entry hd r k ≡ w
 
 -- the rebuilding stands at position p with k slots to take: f slots are open, and v is to be attained
-pub record Place (t : Task) (s K : ℕ) (hd tl : List ℕ) (p k f v : ℕ) : Type 0 where
+pub record Standing (t : Task) (s K : ℕ) (hd tl : List ℕ) (p k f v : ℕ) : Type 0 where
   pub solved : Solved t s K hd tl
   pub k1 : 1 ≤ k
   pub kk : k ≤ K
@@ -83,7 +83,7 @@ unfolding raised
 raised-positive a zero v e h = absurd (omega arith)
 raised-positive a (suc x) v e h = omega arith
 
-module _ (t : Task) (good : Sound t) (s K : ℕ) (hd tl : List ℕ) (p k f v : ℕ) (z : Place t s K hd tl p k f v) where
+module _ (t : Task) (good : Sound t) (s K : ℕ) (hd tl : List ℕ) (p k f v : ℕ) (z : Standing t s K hd tl p k f v) where
   head-v : head t s p k ≡ v
   head-v = sym (z .value ∙ z .solved .heads .at p k (omega arith) (z .due .within (z .k1)) (z .kk))
 
@@ -128,8 +128,8 @@ module _ (t : Task) (good : Sound t) (s K : ℕ) (hd tl : List ℕ) (p k f v : �
         next = record { within = λ h. omega (arith, z .within); worth = λ h. raised-positive _ _ _ (sym (J-is a b) ∙ e) some-v };
       }
 
-  pub place-on : (b : Bool) → Goes (P t) f k J v b → b ≡ true → On
-  place-on b g e = goes-on (subst (Goes (P t) f k J v) e g)
+  pub standing-on : (b : Bool) → Goes (P t) f k J v b → b ≡ true → On
+  standing-on b g e = goes-on (subst (Goes (P t) f k J v) e g)
 
   -- ---- or it ends with a packet of q slots
 
@@ -234,8 +234,8 @@ module _ (t : Task) (good : Sound t) (s K : ℕ) (hd tl : List ℕ) (p k f v : �
     pub next : (r w : ℕ) → q < k → w ≡ entry tl (p + q - 1) (k - q) → NextHead hd (k - q) (p + q + 1) (N t - 1) w r
         → (left t s p k ≡ bitsRun t s p q + left t s r (k - q)) × Due t s r (k - q)
 
-  pub place-off : (b : Bool) → Goes (P t) f k J v b → b ≡ false → (m q : ℕ) → m ≡ top → Longest t p k m v tl q → Off q
-  place-off b g e m q em l = go (subst (Goes (P t) f k J v) e g) (subst (λ i. Longest t p k i v tl q) em l)
+  pub standing-off : (b : Bool) → Goes (P t) f k J v b → b ≡ false → (m q : ℕ) → m ≡ top → Longest t p k m v tl q → Off q
+  standing-off b g e m q em l = go (subst (Goes (P t) f k J v) e g) (subst (λ i. Longest t p k i v tl q) em l)
     where
       go : Goes (P t) f k J v false → Longest t p k top v tl q → Off q
       go g l =
@@ -281,7 +281,7 @@ run-end t s d m i h =
     let e : m - i ≡ 0 = omega arith in
     rw e
 
--- one place more at which A holds, going down and going up
+-- one standing more at which A holds, going down and going up
 pub above-more : (A : ℕ → Type 0) (q m : ℕ) → 0 < q → A q → ((j : ℕ) → q < j → j ≤ m → A j) → (j : ℕ) → q - 1 < j → j ≤ m → A j
 above-more A q m h a f j l r = go (le-or-lt j q)
   where

@@ -7,7 +7,7 @@ use mathlib.Core.List.{List}
 use mathlib.Core.Logic.{_⊎_, inl, inr, ⊎-elim}
 use Prim.Native.Nat.{ℕ, zero, suc, _+_, _-_, _*_, _≤_, _<_, max, min}
 use native.Mathlib.Omega.{arith}
-use native.Mathlib.Nat.{add-zero, mul-le-mul-right, eq-or-lt-of-le}
+use native.Mathlib.Nat.{add-zero, mul-le-mul-right, eq-or-lt-of-le, max-comm}
 use lib.Dec.{leb}
 use lib.ListN.{getD, length, set, length-set}
 use lib.Seq.{getD-set-same, getD-set-other}
@@ -25,6 +25,14 @@ pub record Filled (old new : List ℕ) (base j : ℕ) (e : ℕ → ℕ) : Type 0
   pub below : (i : ℕ) → i < base → getD new i 0 ≡ getD old i 0
   pub above : (i : ℕ) → base + j ≤ i → getD new i 0 ≡ getD old i 0
   pub long : length new ≡ length old
+
+-- the m entries from `at` on become the better of those of hd from `by` on and their own from `from` on
+abbrev pub Lifted : List ℕ → List ℕ → ℕ → ℕ → List ℕ → ℕ → ℕ → Type 0
+Lifted old new at m hd by from = Filled old new at m (λ i. max (getD hd (by + i) 0) (getD old (from + i) 0))
+
+-- they become at least those of tl from `by` on with `words` more on top
+abbrev pub Raised : List ℕ → List ℕ → ℕ → ℕ → List ℕ → ℕ → ℕ → Type 0
+Raised old new at m tl by words = Filled old new at m (λ i. max (getD old (at + i) 0) (raised words (getD tl (by + i) 0)))
 
 pub filled-none : (old : List ℕ) (base : ℕ) (e : ℕ → ℕ) → Filled old old base 0 e
 filled-none old base e = record { row = λ i h. absurd (omega arith); below = λ i h. refl; above = λ i h. refl; long = refl }
@@ -114,23 +122,22 @@ window-none cap e hd old new h =
 
 pub window-more : (cap e from p : ℕ) (hd old mid new : List ℕ) → from ≤ p
     → Filled old mid (e * 64) (cap + 1) (λ k. mostOf hd k from (p - from))
-    → Filled mid new (e * 64) (cap + 1) (λ k. max (entry mid e k) (entry hd p k))
+    → Filled mid new (e * 64) (cap + 1) (λ k. max (entry hd p k) (entry mid e k))
     → Filled old new (e * 64) (cap + 1) (λ k. mostOf hd k from (p + 1 - from))
 window-more cap e from p hd old mid new h a b =
     filled-then old mid new (e * 64) (cap + 1) _ _ a
-    (filled-as mid new (e * 64) (cap + 1) _ _ b (λ k l. ap (λ v. max v (entry hd p k)) (a .row k l) ∙ sym (most-more hd k from p h)))
+    (filled-as mid new (e * 64) (cap + 1) _ _ b (λ k l. ap (max (entry hd p k)) (a .row k l) ∙ max-comm _ _ ∙ sym (most-more hd k from p h)))
 
 module _ (t : Task) (cap e : ℕ) (hd old new : List ℕ) (e2 : e + 2 ≤ N t) where
   -- the limit cuts nothing
   pub tails-far : cap < 64 → N t ≤ e + L t + 1 → e + 3 < N t
-      → Filled old new (e * 64) (cap + 1) (λ k. max (entry hd (e + 2) k) (getD old (e * 64 + 64 + k) 0)) → TailsMore t cap e hd old new
+      → Filled old new (e * 64) (cap + 1) (λ k. max (entry hd (e + 2) k) (entry old (e + 1) k)) → TailsMore t cap e hd old new
   tails-far c63 h l f =
       record {
         filled = filled-as old new (e * 64) (cap + 1) _ (entry new e) f (λ k l. sym (f .row k l));
         is = λ s K k c hs ts k1 kc.
-            let next : e * 64 + 64 + k ≡ (e + 1) * 64 + k = omega arith in
-            f .row k (omega arith) ∙ ap₂ max (hs .at (e + 2) k (omega arith) (omega arith) (omega arith))
-            (ap (λ i. getD old i 0) next ∙ ts .at (e + 1) k (omega arith) (omega arith) (omega arith))
+            f .row k (omega arith)
+            ∙ ap₂ max (hs .at (e + 2) k (omega arith) (omega arith) (omega arith)) (ts .at (e + 1) k (omega arith) (omega arith) (omega arith))
             ∙ sym (tail-far t s e k (omega arith) h (omega arith) k1);
       }
 
@@ -238,7 +245,8 @@ module _ (t : Task) (good : Sound t) (s K p f k : ℕ) (tl : List ℕ) (fn : p +
           → max (packMost t tl p k 1 (min (P t) (min f k))) (raised (packetWords t (P t)) (entry hd (p + P t) (k - P t))) ≡ head t s p k
       go (inr c) = sym (head-long t good s K p k f tl kk (omega arith) ts run (omega arith) fn hd hs a c)
       go (inl c) =
-          let none = hs .at (p + P t) (k - P t) (omega (arith, good .legal .p1)) (omega arith) (omega arith) ∙ head-zero t s (p + P t) (k - P t) (omega arith) in
+          let none = hs .at (p + P t) (k - P t) (omega (arith, good .legal .p1)) (omega arith) (omega arith)
+          ∙ head-zero t s (p + P t) (k - P t) (omega arith) in
           omega (arith, raised-none (packetWords t (P t)) _ none, head-ends (inr c))
 
 module _ (t : Task) (good : Sound t) (cap p f m : ℕ) (tl old new : List ℕ) (c63 : cap < 64) (top : m ≡ min (P t) (min f cap))
@@ -283,7 +291,7 @@ module _ (t : Task) (good : Sound t) (cap p f m : ℕ) (tl old new : List ℕ) (
 -- ---- all positions
 
 -- both tables from position d on, where f slots are open from d on
-pub record Ready (t : Task) (s K d f : ℕ) (hd tl : List ℕ) : Type 0 where
+pub record SolvedFrom (t : Task) (s K d f : ℕ) (hd tl : List ℕ) : Type 0 where
   pub run : FreeRun t s d f
   pub within : d + f < N t
   pub heads : Heads t s K d hd
@@ -302,8 +310,8 @@ solved-fewer t s K k hd tl h z =
       tails = record { at = λ e j a b c. z .tails .at e j a b (omega arith) };
     }
 
-pub ready-none : (t : Task) (s K : ℕ) (hd tl : List ℕ) → 1 ≤ N t → Ready t s K (N t - 1) 0 hd tl
-ready-none t s K hd tl h =
+pub from-none : (t : Task) (s K : ℕ) (hd tl : List ℕ) → 1 ≤ N t → SolvedFrom t s K (N t - 1) 0 hd tl
+from-none t s K hd tl h =
     record {
       run = record { clear = λ i l. absurd (omega arith); stop = opens-last t s (N t - 1 + 0) (omega arith) };
       within = omega arith;
@@ -336,7 +344,7 @@ module _ (t : Task) (s K d : ℕ) (old new : List ℕ) (k : K < 64) where
       go p j (inr e) b c = tails-kept t s K d (K + 1) old new (tail t s d) (omega arith) f z .at p j (omega arith) b c
 
 -- position d is done: b says whether it is open, f′ slots are open from it on, tl′ has its row of tails
-module _ (t : Task) (good : Sound t) (s K d f f′ : ℕ) (b : Bool) (hd tl tl′ : List ℕ) (k : K < 64) (z : Ready t s K (d + 1) f hd tl)
+module _ (t : Task) (good : Sound t) (s K d f f′ : ℕ) (b : Bool) (hd tl tl′ : List ℕ) (k : K < 64) (z : SolvedFrom t s K (d + 1) f hd tl)
     (eb : b ≡ opens t s d) (ef : f′ ≡ cond b (f + 1) 0) (tr : TailRow t K (K + 1) d hd tl tl′) where
   grown-run : FreeRun t s d f′
   grown-run = rw ef (run-grown t s d f b (z .run) eb)
@@ -351,8 +359,8 @@ module _ (t : Task) (good : Sound t) (s K d f f′ : ℕ) (b : Bool) (hd tl tl�
   grown-tails : Tails t s K d tl′
   grown-tails = tails-more t s K d tl tl′ k (tr .is s K (omega arith) (z .heads) (z .tails)) (z .tails)
 
-  pub ready-held : Held t hd tl′ d f′ K
-  ready-held =
+  pub from-held : Held t hd tl′ d f′ K
+  from-held =
       record {
         s = s;
         K = K;
@@ -364,11 +372,11 @@ module _ (t : Task) (good : Sound t) (s K d f f′ : ℕ) (b : Bool) (hd tl tl�
         run = grown-run;
       }
 
-  pub ready-room : d + f′ < 64
-  ready-room = omega (arith, grown-within, good .legal .n64)
+  pub from-room : d + f′ < 64
+  from-room = omega (arith, grown-within, good .legal .n64)
 
-  pub ready-more : (hd′ : List ℕ) → HeadRow t K (K + 1) d f′ tl′ hd hd′ → Ready t s K d f′ hd′ tl′
-  ready-more hd′ hr =
+  pub from-more : (hd′ : List ℕ) → HeadRow t K (K + 1) d f′ tl′ hd hd′ → SolvedFrom t s K d f′ hd′ tl′
+  from-more hd′ hr =
       record {
         run = grown-run;
         within = grown-within;

@@ -83,7 +83,8 @@ module _ (t : Task) (s K e k : ℕ) (hd : List ℕ) (k1 : 1 ≤ k) (kk : k ≤ K
   unfolding mostOf
   tail-window h l1 = reach-first t s e k ∙ go (le-or-lt (e + 2) (min (e + L t + 1) (N t - 1)))
     where
-      go : (e + 2 ≤ min (e + L t + 1) (N t - 1)) ⊎ (min (e + L t + 1) (N t - 1) < e + 2) → reach t s e (e + 2) k ≡ mostOf hd k (e + 2) (min (e + L t + 1) (N t - 1) - (e + 2))
+      go : (e + 2 ≤ min (e + L t + 1) (N t - 1)) ⊎ (min (e + L t + 1) (N t - 1) < e + 2)
+          → reach t s e (e + 2) k ≡ mostOf hd k (e + 2) (min (e + L t + 1) (N t - 1) - (e + 2))
       go (inl b) = reach-most (min (e + L t + 1) (N t - 1) - (e + 2)) (e + 2) (omega arith) (omega arith)
       go (inr b) = far (le-or-lt (e + 2) (e + L t)) ∙ sym (most-none hd k (e + 2) (min (e + L t + 1) (N t - 1)) (omega arith))
         where
@@ -132,7 +133,8 @@ module _ (t : Task) (good : Sound t) (s K p k f : ℕ) (tl : List ℕ) (kk : k �
     unfolding packMost
     mid-most zero q h e =
         let c : q ≡ m = omega arith in
-        rw c (last ∙ ap (λ v. max v J) (ap (raised (packetWords t m)) (sym (ts .at (p + m - 1) (k - m) (omega arith) (omega arith) (omega arith))) ∙ omega arith))
+        rw c (last ∙ ap (λ v. max v J)
+        (ap (raised (packetWords t m)) (sym (ts .at (p + m - 1) (k - m) (omega arith) (omega arith) (omega arith))) ∙ omega arith))
     mid-most (suc i) q h e =
         let b : raised (packetWords t q) (entry tl (p + q - 1) (k - q)) ≡ raised (packetWords t q) (tail t s (p + q - 1) (k - q)) =
         ap (raised (packetWords t q)) (ts .at (p + q - 1) (k - q) (omega arith) (omega arith) (omega arith)) in

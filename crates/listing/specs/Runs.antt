@@ -2,21 +2,28 @@
 -- reached, is what all lines print; at the end nothing is left.
 use mathlib.Core.Path.{_≡_, refl, sym, ap, _∙_, subst}
 use mathlib.Core.List.{List, [], _∷_, _++_, append-assoc, append-nil}
-use Prim.Native.Nat.{ℕ, _+_, _-_, _*_, _≤_, _<_}
+use Prim.Native.Nat.{ℕ, zero, suc, _+_, _-_, _*_, _≤_, _<_}
 use native.Mathlib.Omega.{arith}
-use lib.ListN.{length, take, drop, length-append, length-take, drop-of-length-le, replicate, length-replicate, getD-replicate}
+use lib.ListN.{length, getD, take, drop, length-append, length-take, drop-of-length-le, replicate}
 use lib.Seq.{drop-drop}
-use Rattle.rules.specs.Sets.{listOf}
-use Rattle.rules.specs.Flows.{none}
+use Rattle.rules.specs.Sets.{all, listOf}
+use Rattle.rules.specs.Paths.{trimmed}
 use Rattle.rules.specs.Promises.{closedRecord}
+use Rattle.bytes_list.specs.Layout.{numberAt, numbersAt, knownState, isZero, formed, stateFrom, pathFrom, slotsFrom, recordFrom, decoded, records, listIn}
 use Rattle.grammar.specs.Text.{lines, ascii}
 use Rattle.grammar.specs.Answers.{longText}
 use Rattle.grammar.specs.Writing.{written-take, written-drop}
 use Rattle.reading.specs.declared.Span.{Span}
 use Rattle.reading.specs.Meaning.{Next}
-use Rattle.printing.specs.Puts.{Puts, puts-length}
-use Rattle.listing.specs.Listing.{State, Step, Prints, end, next, Fresh, Writes}
-use Rattle.listing.specs.Lines.{Fed}
+use Rattle.texts.specs.Puts.{Puts, puts-length}
+use Rattle.grammar.specs.Listing.{State, Step, Prints, end, next, start, Writes}
+use Rattle.answering.specs.Lines.{state, count-sixteen, Fed}
+
+-- an input that is not too long, the bytes of 16 records, and room for every listing
+pub record Room (input list out : List ℕ) : Type 0 where
+  pub small : length input ≤ 4096
+  pub long : length list ≡ 1024
+  pub large : 65536 ≤ length out
 
 -- one turn: the line at `from`, which is line k
 pub record Turned (input : List ℕ) (from k : ℕ) (s s′ : State) (old : List ℕ) (at : ℕ) (new : List ℕ) (after place : ℕ) : Type 0 where
@@ -96,7 +103,8 @@ module _ (input : List ℕ) (s₀ : State) (out₀ : List ℕ) (s : State) (from
         prints = λ more p.
             let all = g .prints (t .text ++ (10 ∷ more)) (subst (λ ls. Prints s k ls (t .text ++ (10 ∷ more))) (sym (t .split)) (next (t .step) p)) in
             subst (Prints s₀ 1 (lines input))
-            (ap (λ xs. take at out ++ xs) (sym (append-assoc (t .text) (10 ∷ []) more)) ∙ sym (append-assoc (take at out) text more) ∙ ap (λ xs. xs ++ more) (sym took))
+            (ap (λ xs. take at out ++ xs) (sym (append-assoc (t .text) (10 ∷ []) more)) ∙ sym (append-assoc (take at out) text more)
+            ∙ ap (λ xs. xs ++ more) (sym took))
             all;
       }
 
@@ -114,16 +122,32 @@ module _ (input : List ℕ) (s₀ : State) (out₀ : List ℕ) (s : State) (from
 
 -- ---- the whole
 
--- a state to start from
-first : State
-first = record { table = listOf (λ i. 0) 0 1024; list = replicate 64 closedRecord }
+-- bytes that are all 0 are closed records
+abbrev zeros : ℕ → List ℕ
+zeros n = replicate n 0
 
-first-fresh : Fresh first
-unfolding first
-first-fresh = record {
-  table = refl;
-  list = record { long = length-replicate 64 closedRecord; closed = λ i h. getD-replicate 64 i closedRecord none h };
-}
+zeros-at : (n k : ℕ) → getD (zeros n) k 0 ≡ 0
+zeros-at zero k = refl
+zeros-at (suc n) zero = refl
+zeros-at (suc n) (suc k) = zeros-at n k
+
+zeros-record : (n at : ℕ) → decoded (zeros n) at ≡ closedRecord
+unfolding decoded numberAt stateFrom formed knownState isZero all pathFrom slotsFrom closedRecord trimmed listOf
+zeros-record n at =
+    let none : numbersAt (zeros n) at ≡ (λ j. 0) = λ i j. zeros-at n (at + 2 * j) i + 256 * zeros-at n (at + 2 * j + 1) i in
+    ap recordFrom none
+
+zeros-records : (n m i : ℕ) → records (zeros n) i m ≡ replicate m closedRecord
+unfolding records
+zeros-records n zero i = refl
+zeros-records n (suc m) i = rw (zeros-record n (64 * i), zeros-records n m (suc i))
+
+start-is : state (zeros 1024) (zeros 1024) ≡ start
+unfolding start listIn
+start-is =
+    let list : listIn (zeros 1024) ≡ replicate 16 closedRecord =
+    ap (records (zeros 1024) 0) (count-sixteen (zeros 1024) refl) ∙ zeros-records 1024 16 0 in
+    λ i. record { table = zeros 1024; list = list i }
 
 pub writes-nothing : (input old : List ℕ) → length old < 65536 → Writes input old old 0
 writes-nothing input old h = record {
@@ -146,17 +170,17 @@ writes-long input old new r room long p =
     ∙ ap (λ n. drop n old) (sym (p .place)) in
     record {
       short = λ l. absurd (omega arith);
-      lists = λ l. record { start = first; fresh = first-fresh; printed = λ m. absurd (omega arith); too-long = λ m. took };
+      lists = λ l. record { printed = λ m. absurd (omega arith); too-long = λ m. took };
       inside = omega (arith, p .place);
       long = kept;
       rest = left;
     }
 
-pub writes-lines : (input : List ℕ) (s : State) (old new : List ℕ) (r : ℕ) → 65536 ≤ length old → length input ≤ 4096 → Fresh s → Ran input s old new r
-    → Writes input old new r
-writes-lines input s old new r room small fresh ran = record {
+pub writes-lines : (input table flows old new : List ℕ) (r : ℕ) → 65536 ≤ length old → length input ≤ 4096
+    → table ≡ replicate 1024 0 → flows ≡ replicate 1024 0 → Ran input (state table flows) old new r → Writes input old new r
+writes-lines input table flows old new r room small p q ran = record {
   short = λ l. absurd (omega arith);
-  lists = λ l. record { start = s; fresh = fresh; printed = λ m. ran .prints; too-long = λ m. absurd (omega arith) };
+  lists = λ l. record { printed = λ m. rw (p, q, start-is) at (ran .prints); too-long = λ m. absurd (omega arith) };
   inside = ran .inside;
   long = ran .long;
   rest = ran .rest;

@@ -4,21 +4,18 @@ use mathlib.Core.Path.{_≡_, refl, sym, ap, _∙_, subst}
 use mathlib.Core.List.{List, [], _∷_, _++_}
 use mathlib.Core.Logic.{_⊎_, inl, inr}
 use Prim.Native.Nat.{ℕ, _+_, _≤_, _<_}
-use native.Mathlib.Omega.{arith}
 use lib.ListN.{length, take, drop, take-append-drop}
-use lib.Seq.{ext-getD, length-take-le}
-use Rattle.rules.specs.declared.Record.{Record}
+use lib.Seq.{length-take-le}
 use Rattle.rules.specs.declared.Opened.{Opened}
 use Rattle.rules.specs.declared.Cleared.{Cleared}
 use Rattle.rules.specs.declared.Reported.{Reported}
-use Rattle.rules.specs.Flows.{none}
 use Rattle.laws.specs.Logic.{le-or-lt}
 use Rattle.ledger.specs.Calls.{opens-unique, closes-unique, reports-unique}
 use Rattle.grammar.specs.Text.{lines}
 use Rattle.grammar.specs.Commands.{Command, opening, closing, reporting, Reads, Bad}
 use Rattle.grammar.specs.Answers.{openText, closeText, reportText, badText}
 use Rattle.grammar.specs.Spelling.{reads-once}
-use Rattle.listing.specs.Listing.{State, OpensFrom, ClosesFrom, ReportsFrom, Step, opens, closes, reports, bad, Prints, end, next, Blanks, Fresh, Lists, Writes}
+use Rattle.grammar.specs.Listing.{State, OpensFrom, ClosesFrom, ReportsFrom, Step, opens, closes, reports, bad, Prints, end, next, start, Lists, Writes}
 
 -- what was done for a command: the promise with its answer, and the answer's text
 Did : State → Command → State → List ℕ → Type 0
@@ -83,21 +80,12 @@ prints-settled (line ∷ ls) s k a b (next {s′ = u} {text = t} {out = x} p ps)
     let rest : x ≡ y = prints-settled ls u (k + 1) x y ps (subst (λ z. Prints z (k + 1) ls y) (sym (e .state)) qs) in
     ap (λ l. l ++ (10 ∷ x)) (e .words) ∙ ap (λ l. w ++ (10 ∷ l)) rest
 
-blanks-same : (l m : List Record) → Blanks l → Blanks m → l ≡ m
-blanks-same l m p q =
-    ext-getD none l m (p .long ∙ sym (q .long)) λ i h. let below : i < 64 = omega (arith, p .long) in p .closed i below ∙ sym (q .closed i below)
-
-fresh-same : (s u : State) → Fresh s → Fresh u → s ≡ u
-fresh-same s u p q = state-same s u (p .table ∙ sym (q .table)) (blanks-same (s .list) (u .list) (p .list) (q .list))
-
 -- two listings of one input are the same
 pub lists-unique : (input a b : List ℕ) → Lists input a → Lists input b → a ≡ b
 lists-unique input a b p q = go (le-or-lt (length input) 4096)
   where
     go : (length input ≤ 4096) ⊎ (4096 < length input) → a ≡ b
-    go (inl h) =
-        prints-settled (lines input) (p .start) 1 a b (p .printed h)
-        (subst (λ s. Prints s 1 (lines input) b) (fresh-same (q .start) (p .start) (q .fresh) (p .fresh)) (q .printed h))
+    go (inl h) = prints-settled (lines input) start 1 a b (p .printed h) (q .printed h)
     go (inr h) = p .too-long h ∙ sym (q .too-long h)
 
 -- and so are two buffers

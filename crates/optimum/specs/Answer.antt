@@ -26,16 +26,28 @@ use Rattle.optimum.specs.Best.{Optimum, greedy-best, greedy-size, greedy
 use Rattle.optimum.specs.Search.{Sofar, Holds}
 
 -- a demand that the free slots meet
-pub record Asked (w : Wheel) (free W L : ℕ) : Type 0 where
+pub record Meetable (w : Wheel) (free W L : ℕ) : Type 0 where
   pub legal : Legal w
   pub fit : Below (w .n) free
   pub some : 1 ≤ W
   pub l1 : 1 ≤ L
   pub meets : Meets w W L free
 
+-- the search for one, with L cut at N, is sound
+pub sound : (t : Task) (limit : ℕ) → L t ≡ min limit (N t) → Meetable (t .wheel) (t .free) (t .words .0) limit → 2 ≤ N t → Sound t
+sound t limit el a two =
+    record {
+      legal = a .legal;
+      two = two;
+      some = a .some;
+      l1 = omega (arith, a .l1);
+      l64 = omega (arith, a .legal .n64);
+      fit = a .fit;
+    }
+
 -- ---- only the full wheel is left
 
-module _ (w : Wheel) (free W L : ℕ) (a : Asked w free W L) where
+module _ (w : Wheel) (free W L : ℕ) (a : Meetable w free W L) where
   full-same : (y : ℕ) → Within free y → full (w .n) free ≡ true → full (w .n) y ≡ true → free ≡ y
   full-same y yin f g = same-set free y λ i. go i (le-or-lt (w .n) i)
     where
@@ -81,8 +93,11 @@ module _ (w : Wheel) (n1 : 1 ≤ w .n) (free W L : ℕ) where
 
 -- ---- after all starts
 
-module _ (t : Task) (good : Sound t) (limit : ℕ) (el : L t ≡ min limit (N t)) (a : Asked (t .wheel) (t .free) (t .words .0) limit)
+module _ (t : Task) (limit : ℕ) (el : L t ≡ min limit (N t)) (a : Meetable (t .wheel) (t .free) (t .words .0) limit) (two : 2 ≤ N t)
     (b : Found) (z : Sofar t (N t) b) where
+  good : Sound t
+  good = sound t limit el a two
+
   pub none-grants : b .value ≡ 0 → (g : Grant) → g .slots ≡ t .free → g .count ≡ N t → g .words .0 ≡ words (t .wheel) (t .free)
       → Grants (t .wheel) (t .free) (t .words .0) limit g
   none-grants v0 = whole-grants (t .wheel) (t .free) (t .words .0) limit a λ y yin ym. go y yin ym (full (N t) y) refl

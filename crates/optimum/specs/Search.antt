@@ -185,7 +185,8 @@ module _ (t : Task) (good : Sound t) (u : ℕ) (b : Found) (z : Sofar t u b) whe
             some = omega (arith, start-some h);
             over = omega (arith, w .enough h);
             worth = rw (es, ek) (sym (row k (omega arith)) ∙ sym ev);
-            most = below-more (λ v. head t v 0 (new .count) ≤ new .value) u (λ v m. omega (arith, less better v m)) (rw ek (omega (arith, row k (omega arith))));
+            most = below-more (λ v. head t v 0 (new .count) ≤ new .value) u (λ v m. omega (arith, less better v m))
+                (rw ek (omega (arith, row k (omega arith))));
             first = λ v m. less better v (omega arith);
             set = rw (es, ek) ex;
           });

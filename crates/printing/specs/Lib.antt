@@ -1,4 +1,1 @@
-pub mod Puts
-pub mod Digits
-pub mod Slots
 pub mod Tails

@@ -1,14 +1,10 @@
-// Printing: the text of each answer at a place of a buffer. Every function writes exactly its text:
-// what stands before the place and behind the text stays. It answers the place after the text.
+// Printing: the text of each answer at a place of a buffer, written as `texts` writes.
 ghost use mathlib.Core.Path.{_≡_};
-ghost use mathlib.Core.List.{_++_};
 ghost use Prim.Native.Nat.{_+_, _≤_};
 ghost use lib.ListN.{length};
-ghost use Rattle.rules.specs.Sets.{has, places};
 ghost use Rattle.rules.specs.Numbers.{number};
-ghost use Rattle.grammar.specs.Text.{decimal, field, fields};
 ghost use Rattle.grammar.specs.Answers.{openText, closeText, reportText, badText};
-ghost use Rattle.printing.specs.Puts.{Puts};
+ghost use Rattle.texts.specs.Puts.{Puts};
 ghost use Rattle.printing.specs.Tails.{refusalTail, grantTail, openTail, closeTail, totalsText};
 use rules::Cleared;
 use rules::Grant;
@@ -16,63 +12,6 @@ use rules::Opened;
 use rules::Refusal;
 use rules::Reported;
 use rules::Totals;
-
-// A text.
-pub fn put(out: &mut [u8], at: usize, text: &[u8]) -> usize
-    requires { ⌜ at + length (now text) ≤ length (now out) ⌝ }
-    ensures { λ r. ⌜ Puts (now (out .entry)) at (now (text .entry)) (now (out .exit)) r ⌝ }
-{
-    let mut i = 0;
-    while i < text.len() {
-        out[at + i] = text[i];
-        i += 1;
-    }
-    at + i
-}
-
-// A number in decimal.
-fn put_number(out: &mut [u8], at: usize, n: usize) -> usize
-    requires { ⌜ at + length (decimal n) ≤ length (now out) ⌝ }
-    ensures { λ r. ⌜ Puts (now (out .entry)) at (decimal n) (now (out .exit)) r ⌝ }
-{
-    let mut digits = [0u8; 20];
-    let k = io::decimal(n as u64, &mut digits);
-    put(out, at, &digits[..k])
-}
-
-// A space and a number.
-fn put_field(out: &mut [u8], at: usize, n: usize) -> usize
-    requires { ⌜ at + length (field n) ≤ length (now out) ⌝ }
-    ensures { λ r. ⌜ Puts (now (out .entry)) at (field n) (now (out .exit)) r ⌝ }
-{
-    let next = put(out, at, b" ");
-    put_number(out, next, n)
-}
-
-// The slots of a set in rising order, a space before each.
-fn put_slots(out: &mut [u8], at: usize, slots: u64) -> usize
-    requires { ⌜ at + length (fields (places (has slots) 0 64)) ≤ length (now out) ⌝ }
-    ensures { λ r. ⌜ Puts (now (out .entry)) at (fields (places (has slots) 0 64)) (now (out .exit)) r ⌝ }
-{
-    let mut next = at;
-    let mut s = 0;
-    while s < 64 {
-        if (slots >> s) % 2 == 1 {
-            next = put_field(out, next, s);
-        }
-        s += 1;
-    }
-    next
-}
-
-// A word, a space and a number.
-fn put_labelled(out: &mut [u8], at: usize, label: &[u8], n: usize) -> usize
-    requires { ⌜ at + length (now label ++ field n) ≤ length (now out) ⌝ }
-    ensures { λ r. ⌜ Puts (now (out .entry)) at (now (label .entry) ++ field n) (now (out .exit)) r ⌝ }
-{
-    let next = put(out, at, label);
-    put_field(out, next, n)
-}
 
 // Document 01's number of a refusal, as wide as every number here.
 fn number_of(r: Refusal) -> usize
@@ -86,7 +25,7 @@ fn put_refusal(out: &mut [u8], at: usize, r: Refusal) -> usize
     requires { ⌜ at + length (refusalTail r) ≤ length (now out) ⌝ }
     ensures { λ p. ⌜ Puts (now (out .entry)) at (refusalTail r) (now (out .exit)) p ⌝ }
 {
-    put_labelled(out, at, b" refused", number_of(r))
+    texts::put_labelled(out, at, b" refused", number_of(r))
 }
 
 // The words that a grant delivers.
@@ -101,9 +40,9 @@ fn put_grant(out: &mut [u8], at: usize, g: Grant) -> usize
     requires { ⌜ at + length (grantTail g) ≤ length (now out) ⌝ }
     ensures { λ r. ⌜ Puts (now (out .entry)) at (grantTail g) (now (out .exit)) r ⌝ }
 {
-    let slots = put(out, at, b" slots");
-    let words = put_slots(out, slots, g.slots);
-    put_labelled(out, words, b" words", words_of(g))
+    let slots = texts::put(out, at, b" slots");
+    let words = texts::put_slots(out, slots, g.slots);
+    texts::put_labelled(out, words, b" words", words_of(g))
 }
 
 // What opening answers, behind the verb and the flow.
@@ -123,7 +62,7 @@ fn put_cleared(out: &mut [u8], at: usize, a: Cleared) -> usize
     ensures { λ r. ⌜ Puts (now (out .entry)) at (closeTail a) (now (out .exit)) r ⌝ }
 {
     match a {
-        Cleared::Cells(k) => put_labelled(out, at, b" cells", k),
+        Cleared::Cells(k) => texts::put_labelled(out, at, b" cells", k),
         Cleared::Refused(r) => put_refusal(out, at, r),
     }
 }
@@ -133,8 +72,8 @@ fn put_totals(out: &mut [u8], at: usize, c: Totals) -> usize
     requires { ⌜ at + length (totalsText c) ≤ length (now out) ⌝ }
     ensures { λ r. ⌜ Puts (now (out .entry)) at (totalsText c) (now (out .exit)) r ⌝ }
 {
-    let next = put_labelled(out, at, b"report free", c.free);
-    put_labelled(out, next, b" held", c.held)
+    let next = texts::put_labelled(out, at, b"report free", c.free);
+    texts::put_labelled(out, next, b" held", c.held)
 }
 
 // The line for an opening.
@@ -142,7 +81,7 @@ pub fn put_open(out: &mut [u8], at: usize, flow: usize, a: Opened) -> usize
     requires { ⌜ at + length (openText flow a) ≤ length (now out) ⌝ }
     ensures { λ r. ⌜ Puts (now (out .entry)) at (openText flow a) (now (out .exit)) r ⌝ }
 {
-    let next = put_labelled(out, at, b"open", flow);
+    let next = texts::put_labelled(out, at, b"open", flow);
     put_opened(out, next, a)
 }
 
@@ -151,7 +90,7 @@ pub fn put_close(out: &mut [u8], at: usize, flow: usize, a: Cleared) -> usize
     requires { ⌜ at + length (closeText flow a) ≤ length (now out) ⌝ }
     ensures { λ r. ⌜ Puts (now (out .entry)) at (closeText flow a) (now (out .exit)) r ⌝ }
 {
-    let next = put_labelled(out, at, b"close", flow);
+    let next = texts::put_labelled(out, at, b"close", flow);
     put_cleared(out, next, a)
 }
 
@@ -162,7 +101,7 @@ pub fn put_report(out: &mut [u8], at: usize, a: Reported) -> usize
 {
     match a {
         Reported::Counted(c) => put_totals(out, at, c),
-        Reported::Refused(r) => put_labelled(out, at, b"report refused", number_of(r)),
+        Reported::Refused(r) => texts::put_labelled(out, at, b"report refused", number_of(r)),
     }
 }
 
@@ -171,6 +110,6 @@ pub fn put_bad(out: &mut [u8], at: usize, k: usize) -> usize
     requires { ⌜ at + length (badText k) ≤ length (now out) ⌝ }
     ensures { λ r. ⌜ Puts (now (out .entry)) at (badText k) (now (out .exit)) r ⌝ }
 {
-    let next = put_labelled(out, at, b"line", k);
-    put(out, next, b" bad")
+    let next = texts::put_labelled(out, at, b"line", k);
+    texts::put(out, next, b" bad")
 }

@@ -1,6 +1,5 @@
 pub mod Meaning
 pub mod Verbs
-pub mod Digits
-pub mod Columns
 pub mod Paths
 pub mod Orders
+pub mod Told

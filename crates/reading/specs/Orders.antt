@@ -5,20 +5,16 @@ use Prim.Native.Nat.{ℕ, suc, _-_, _≤_, _<_}
 use native.Mathlib.Omega.{arith}
 use lib.ListN.{length, getD, take, drop, length-drop}
 use lib.Seq.{length-take-le}
-use Rattle.rules.specs.Promises.{trimmed}
+use Rattle.rules.specs.Paths.{trimmed}
 use Rattle.grammar.specs.Text.{fields}
-use Rattle.grammar.specs.Commands.{closing, Few, Reads, Bad}
+use Rattle.grammar.specs.Commands.{opening, closing, Few, Bad}
 use Rattle.grammar.specs.Spelling.{few-none, few-head, few-cons, fields-same}
-use Rattle.reading.specs.Meaning.{FieldsAt, NoFields, Begins, Opening, Told, Means}
+use Rattle.decimals.specs.Meaning.{FieldsAt, NoFields}
+use Rattle.reading.specs.Meaning.{Begins, bare, parsed, Means, says}
 use Rattle.reading.specs.Verbs.{open-bytes, close-bytes, not-open, not-close, opening-reads, closing-reads}
 use Rattle.reading.specs.Paths.{trimmed-take}
-use Rattle.reading.specs.declared.Fields.{Fields}
+use Rattle.decimals.specs.declared.Fields.{Fields}
 use Rattle.reading.specs.declared.Verb.the-variants as verb
-use Rattle.reading.specs.declared.Parsed.{Parsed}
-
-pub means-bad : (line : List ℕ) (r : Parsed) → r .verb ≡ verb.Neither → Bad line → Means line r
-unfolding Means Told
-means-bad line r e b = subst (λ v. Told line v r) (sym e) b
 
 -- ---- open
 
@@ -39,7 +35,7 @@ module _ (line : List ℕ) (r : Fields) (b : Begins line open-bytes) (f : Fields
       omega (arith, ap length same, count-long)
 
   pub means-open : 3 ≤ r .count
-      → Opening line
+      → Means line
       (record {
         verb = verb.Open;
         flow = getD (r .values) 0 0;
@@ -48,6 +44,7 @@ module _ (line : List ℕ) (r : Fields) (b : Begins line open-bytes) (f : Fields
         path = trimmed (drop 3 (r .values)) (r .count - 3);
         len = r .count - 3;
       })
+  unfolding parsed
   means-open h =
       let vs = r .values in
       let m = r .count - 3 in
@@ -57,14 +54,10 @@ module _ (line : List ℕ) (r : Fields) (b : Begins line open-bytes) (f : Fields
       let number : r .count ≡ suc (suc (suc m)) = omega arith in
       let all : take (r .count) vs ≡ getD vs 0 0 ∷ getD vs 1 0 ∷ getD vs 2 0 ∷ cs =
       ap (λ k. take k vs) number ∙ ap (take (suc (suc (suc m)))) (three vs (omega (arith, f .long))) in
-      record {
-        channels = cs;
-        reads =
-            opening-reads line (getD vs 0 0) (getD vs 1 0) (getD vs 2 0) cs b (subst Few all (f .few)) (omega (arith, f .most))
-            (f .spelled ∙ ap fields all);
-        path = trimmed-take (drop 3 vs) m ∙ ap (trimmed cs) (sym long);
-        len = sym long;
-      }
+      says (opening (getD vs 0 0) (getD vs 1 0) (getD vs 2 0) cs)
+      (opening-reads line (getD vs 0 0) (getD vs 1 0) (getD vs 2 0) cs b (subst Few all (f .few)) (omega (arith, f .most))
+      (f .spelled ∙ ap fields all))
+      (rw (trimmed-take (drop 3 vs) m, long))
 
 pub opens-nothing : (line : List ℕ) → Begins line open-bytes → NoFields line 4 → Bad line
 opens-nothing line b n = not-open line b (λ ns few most some e. n .none ns few most e)
@@ -78,11 +71,12 @@ module _ (line : List ℕ) (r : Fields) (b : Begins line close-bytes) (f : Field
       let same = fields-same (take (r .count) (r .values)) (n ∷ []) (f .few) (few-cons small few-none) (sym (f .spelled) ∙ e) in
       h (sym (length-take-le (r .count) (r .values) (omega (arith, f .most, f .long))) ∙ ap length same)
 
-  pub means-close : r .count ≡ 1 → Reads line (closing (getD (r .values) 0 0))
+  pub means-close : r .count ≡ 1 → Means line (bare verb.Close (getD (r .values) 0 0))
+  unfolding parsed
   means-close h =
       let vs = r .values in
       let all : take (r .count) vs ≡ getD vs 0 0 ∷ [] = ap (λ k. take k vs) h ∙ ap (take 1) (three vs (omega (arith, f .long))) in
-      closing-reads line (getD vs 0 0) b (few-head (subst Few all (f .few))) (f .spelled ∙ ap fields all)
+      says (closing (getD vs 0 0)) (closing-reads line (getD vs 0 0) b (few-head (subst Few all (f .few))) (f .spelled ∙ ap fields all)) refl
 
 pub closes-nothing : (line : List ℕ) → Begins line close-bytes → NoFields line 5 → Bad line
 closes-nothing line b n = not-close line b (λ k small e. n .none (k ∷ []) (few-cons small few-none) (omega arith) e)

@@ -10,9 +10,10 @@ use borrow.Author.Tests.{lt-ltb, le-ltb}
 use lib.Dec.{ltb}
 use lib.ListN.{length, getD, take, drop, set, length-set, replicate, getD-replicate}
 use lib.Seq.{ext-getD, getD-drop, getD-take, getD-set-same, getD-set-other}
-use Rattle.rules.specs.Promises.{trimmed}
+use Rattle.rules.specs.Paths.{trimmed}
 use Rattle.laws.specs.Logic.{le-or-lt}
-use Rattle.grammar.specs.Filling.{listOf-length, listOf-at}
+use Rattle.laws.specs.Counting.{list-length}
+use Rattle.grammar.specs.Filling.{listOf-at}
 
 pub record Filled (values path : List ℕ) (i : ℕ) : Type 0 where
   pub long : length path ≡ 16
@@ -44,7 +45,7 @@ trimmed-at path m k h = listOf-at (λ i. cond (ltb i m) (getD path i 0) 0) 0 16 
 
 trimmed-long : (path : List ℕ) (m : ℕ) → length (trimmed path m) ≡ 16
 unfolding trimmed
-trimmed-long path m = listOf-length (λ i. cond (ltb i m) (getD path i 0) 0) 0 16
+trimmed-long path m = list-length (λ i. cond (ltb i m) (getD path i 0) 0) 16 0
 
 pub filled-all : (values path : List ℕ) (count : ℕ) → Filled values path count → path ≡ trimmed (drop 3 values) count
 filled-all values path count f =

@@ -1,37 +1,19 @@
 // Reading: the lines of a text one by one, and a line as a command. Whatever is not spelled exactly
-// as document 01 says is bad: leading zeros, signs, numbers above 65535, more than 16 channels, a
-// second space, a tab, a carriage return, anything after the last field.
+// as document 01 says is bad: a word that is no command, a number that is none, more than 16
+// channels, anything after the last field.
 ghost use mathlib.Core.Path.{_≡_};
-ghost use mathlib.Core.Bool.{true, false};
 ghost use Prim.Native.Nat.{_-_, _≤_, _<_};
 ghost use lib.ListN.{length, drop};
 ghost use Rattle.rules.specs.Tells.{Tells};
-ghost use Rattle.rules.specs.Promises.{trimmed};
-ghost use Rattle.grammar.specs.Decimals.{leading};
-ghost use Rattle.grammar.specs.Decimals.{digit as Digit·of};
+ghost use Rattle.rules.specs.Paths.{trimmed};
 ghost use Rattle.grammar.specs.Lines.{Ends};
-ghost use Rattle.reading.specs.Meaning.{Next, Numbered, Split, Begins, Means};
+ghost use Rattle.reading.specs.Meaning.{Next, Begins, bare, neither, Means};
 ghost use Rattle.reading.specs.Verbs.{open-bytes, close-bytes, report-bytes};
 
 // A line's end, and where the next line starts.
 pub struct Span {
     pub end: usize,
     pub next: usize,
-}
-
-// A number in a line: whether there is one, its value, and the place after it.
-pub struct Number {
-    pub found: bool,
-    pub value: u16,
-    pub next: usize,
-}
-
-// The numbers that a line ends with: whether it is nothing but numbers, each after a space, and
-// their values.
-pub struct Fields {
-    pub good: bool,
-    pub values: [u16; 19],
-    pub count: usize,
 }
 
 // What a line asks for.
@@ -85,116 +67,6 @@ pub fn next_line(text: &[u8], at: usize) -> Span
     }
 }
 
-// The digit that a byte is; 10 where it is none.
-fn digit(b: u8) -> usize
-    ensures { λ r. ⌜ r ≡ Digit·of b ⌝ }
-{
-    if b < b'0' {
-        return 10;
-    }
-    if b'9' < b {
-        return 10;
-    }
-    (b - b'0') as usize
-}
-
-// The digit at a place of the line; 10 where there is none.
-fn digit_at(line: &[u8], at: usize) -> usize
-    ensures { λ r. ⌜ r ≡ leading (drop at (now (line .entry))) ⌝ }
-{
-    if line.len() <= at {
-        return 10;
-    }
-    digit(line[at])
-}
-
-// What is answered where no number stands.
-fn no_number() -> Number
-    ensures { λ r. ⌜ r .found ≡ false ⌝ }
-{
-    Number {
-        found: false,
-        value: 0,
-        next: 0,
-    }
-}
-
-// The number at a place of the line: up to 65535, with no zero in front, and with all the digits
-// that stand there.
-fn number_at(line: &[u8], at: usize) -> Number
-    ensures { λ r. ⌜ Numbered (now (line .entry)) at (r .found) r ⌝ }
-{
-    let mut value = digit_at(line, at);
-    if 9 < value {
-        return no_number();
-    }
-    let mut next = at + 1;
-    let mut d = digit_at(line, next);
-    while d < 10 {
-        if value == 0 {
-            return no_number();
-        }
-        value = value * 10 + d;
-        if 65535 < value {
-            return no_number();
-        }
-        next += 1;
-        d = digit_at(line, next);
-    }
-    Number {
-        found: true,
-        value: value as u16,
-        next: next,
-    }
-}
-
-// Nineteen zeros.
-fn zeros() -> [u16; 19]
-    ensures { λ r. ⌜ length r ≡ 19 ⌝ }
-{
-    [0; 19]
-}
-
-// What is answered where something else than fields stands.
-fn no_fields() -> Fields
-    ensures { λ r. ⌜ r .good ≡ false ⌝ }
-{
-    Fields {
-        good: false,
-        values: [0; 19],
-        count: 0,
-    }
-}
-
-// The fields from a place of the line to its end: a space and a number each, at most 19.
-fn fields_at(line: &[u8], at: usize) -> Fields
-    ensures { λ r. ⌜ Split (now (line .entry)) at (r .good) r ⌝ }
-{
-    let mut values = zeros();
-    let mut count = 0;
-    let mut i = at;
-    while i < line.len() {
-        if count == 19 {
-            return no_fields();
-        }
-        if line[i] != b' ' {
-            return no_fields();
-        }
-        let n = number_at(line, i + 1);
-        if !n.found {
-            return no_fields();
-        }
-        values[count] = n.value;
-        count += 1;
-        i = n.next;
-    }
-    Fields {
-        good: true,
-        values: values,
-        count: count,
-    }
-}
-
 // Whether the line begins with the word.
 fn begins(line: &[u8], word: &[u8]) -> bool
     ensures { λ r. ⌜ Tells r (Begins (now (line .entry)) (now (word .entry))) ⌝ }
@@ -226,13 +98,13 @@ fn path_of(values: [u16; 19], count: usize) -> [u16; 16]
     path
 }
 
-// A line that is no command.
-fn bad() -> Parsed
-    ensures { λ r. ⌜ r .verb ≡ Verb.Neither ⌝ }
+// A verb with its flow; what only an opening uses is 0.
+fn bare(verb: Verb, flow: u16) -> Parsed
+    ensures { λ r. ⌜ r ≡ bare verb flow ⌝ }
 {
     Parsed {
-        verb: Verb::Neither,
-        flow: 0,
+        verb: verb,
+        flow: flow,
         words: 0,
         deadline: 0,
         path: [0; 16],
@@ -240,12 +112,19 @@ fn bad() -> Parsed
     }
 }
 
+// A line that is no command.
+fn bad() -> Parsed
+    ensures { λ r. ⌜ r ≡ neither ⌝ }
+{
+    bare(Verb::Neither, 0)
+}
+
 // A line that begins with `open`: three numbers or more have to follow.
 fn opening(line: &[u8]) -> Parsed
     requires { ⌜ Begins (now line) open-bytes ⌝ }
     ensures { λ r. ⌜ Means (now (line .entry)) r ⌝ }
 {
-    let f = fields_at(line, 4);
+    let f = decimals::fields_at(line, 4);
     if !f.good {
         return bad();
     }
@@ -270,7 +149,7 @@ fn closing(line: &[u8]) -> Parsed
     requires { ⌜ Begins (now line) close-bytes ⌝ }
     ensures { λ r. ⌜ Means (now (line .entry)) r ⌝ }
 {
-    let f = fields_at(line, 5);
+    let f = decimals::fields_at(line, 5);
     if !f.good {
         return bad();
     }
@@ -278,14 +157,7 @@ fn closing(line: &[u8]) -> Parsed
         return bad();
     }
     let values = f.values;
-    Parsed {
-        verb: Verb::Close,
-        flow: values[0],
-        words: 0,
-        deadline: 0,
-        path: [0; 16],
-        len: 0,
-    }
+    bare(Verb::Close, values[0])
 }
 
 // A line that begins with `report`: nothing may follow.
@@ -296,14 +168,7 @@ fn reporting(line: &[u8]) -> Parsed
     if line.len() != 6 {
         return bad();
     }
-    Parsed {
-        verb: Verb::Report,
-        flow: 0,
-        words: 0,
-        deadline: 0,
-        path: [0; 16],
-        len: 0,
-    }
+    bare(Verb::Report, 0)
 }
 
 // A line, without its line feed, as a command.

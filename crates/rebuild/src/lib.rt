@@ -46,8 +46,8 @@ fn longest(tails: &[u16], task: Task, p: usize, k: usize, m: usize, v: u16) -> u
 {
     let mut q = m;
     while 0 < q {
-        let words = tables::packet_words(task, q);
-        if tables::raised(words, tails[(p + q - 1) * 64 + (k - q)]) == v {
+        let words = positions::packet_words(task, q);
+        if positions::raised(words, tails[(p + q - 1) * 64 + (k - q)]) == v {
             return q;
         }
         q -= 1;
@@ -75,7 +75,8 @@ fn goes_on(heads: &[u16], task: Task, p: usize, f: usize, k: usize, v: u16) -> b
     requires { ⌜ Sound task ⌝ }
     requires { do ⌜ (p + f < 64) × (k < 64) × ((← ⟦heads.len()⟧) ≡ 4096) ⌝ }
     requires { ⌜ (task .wheel .p < f → task .wheel .p < k → entry (now heads) (p + task .wheel .p) (k - task .wheel .p) ≤ 4097) ⌝ }
-    ensures { λ r. ⌜ Goes (task .wheel .p) f k (raised (packetWords task (task .wheel .p)) (entry (now (heads .entry)) (p + task .wheel .p) (k - task .wheel .p))) v r ⌝ }
+    ensures { λ r. ⌜ Goes (task .wheel .p) f k
+        (raised (packetWords task (task .wheel .p)) (entry (now (heads .entry)) (p + task .wheel .p) (k - task .wheel .p))) v r ⌝ }
 {
     let period = task.wheel.p;
     if f <= period {
@@ -84,8 +85,8 @@ fn goes_on(heads: &[u16], task: Task, p: usize, f: usize, k: usize, v: u16) -> b
     if k <= period {
         return false;
     }
-    let words = tables::packet_words(task, period);
-    if tables::raised(words, heads[(p + period) * 64 + (k - period)]) == v {
+    let words = positions::packet_words(task, period);
+    if positions::raised(words, heads[(p + period) * 64 + (k - period)]) == v {
         return true;
     }
     false
@@ -103,7 +104,9 @@ struct Spot {
 // longest; then the next packet begins at the first position that attains the rest.
 fn packet_step(heads: &[u16], tails: &[u16], task: Task, start: PathSlot, at: Spot) -> Spot
     requires { ⌜ Sound task ⌝ }
-    requires { do ⌜ (start .0 < task .wheel .n) × (1 ≤ at .k) × (at .k < 64) × ((← ⟦heads.len()⟧) ≡ 4096) × ((← ⟦tails.len()⟧) ≡ 4096) × (at .slots + left task (start .0) (at .p) (at .k) < 2 ^ 64) ⌝ }
+    requires { do
+      ⌜ (start .0 < task .wheel .n) × (1 ≤ at .k) × (at .k < 64) × ((← ⟦heads.len()⟧) ≡ 4096) × ((← ⟦tails.len()⟧) ≡ 4096)
+          × (at .slots + left task (start .0) (at .p) (at .k) < 2 ^ 64) ⌝ }
     requires { ⌜ Solved task (start .0) (at .k) (now heads) (now tails) × Due task (start .0) (at .p) (at .k) ⌝ }
     ensures { λ r. ⌜ Stepped task (start .0) (at .slots) (at .p) (at .k) (r .slots) (r .p) (r .k) ⌝ }
 {
@@ -111,7 +114,7 @@ fn packet_step(heads: &[u16], tails: &[u16], task: Task, start: PathSlot, at: Sp
     let period = task.wheel.p;
     let p = at.p;
     let k = at.k;
-    let f = tables::free_run(task, start, p);
+    let f = positions::free_run(task, start, p);
     let v = heads[p * 64 + k];
     if goes_on(heads, task, p, f, k, v) {
         return Spot {
@@ -120,7 +123,7 @@ fn packet_step(heads: &[u16], tails: &[u16], task: Task, start: PathSlot, at: Sp
             k: k - period,
         };
     }
-    let m = tables::smaller(period, tables::smaller(f, k));
+    let m = positions::smaller(period, positions::smaller(f, k));
     let q = longest(tails, task, p, k, m, v);
     let slots = add_run(at.slots, task, start, p, q);
     if k == q {

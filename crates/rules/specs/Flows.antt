@@ -6,6 +6,7 @@ use mathlib.Core.List.{List, []}
 use Prim.Native.Nat.{ℕ, _+_, _*_, _≤_, _<_}
 use lib.ListN.{getD}
 use lib.Dec.{eqb}
+use Rattle.rules.specs.declared.Wheel.{Wheel}
 use Rattle.rules.specs.declared.Demand.{Demand}
 use Rattle.rules.specs.declared.State.{State}
 use Rattle.rules.specs.declared.State.the-variants.{Closed, Open}
@@ -39,7 +40,7 @@ pub record Blank (r : Record) : Type 0 where
 pub record Lawful (chip : Chip) (d : Demand) (r : Record) : Type 0 where
   pub some : 1 ≤ r .len
   pub fits : r .len ≤ 16
-  pub inside : Inside chip (r .path) (r .len)
+  pub inside : Inside (chip .channels) (r .path) (r .len)
   pub once : Once (r .path) (r .len)
   pub rest : Rest (r .path) (r .len)
   pub words : 1 ≤ d .words .0
@@ -71,9 +72,9 @@ unfoldable pub freeCells : Chip → List ℕ → ℕ
 freeCells chip t = sum (λ c. sum (λ j. cond (eqb (cell t c j) 0) 1 0) 0 (chip .wheel .n)) 0 (chip .channels)
 
 -- the cells of one flow: slots times path length
-unfoldable pub cellsOf : Chip → Record → ℕ
-cellsOf chip r = cond (claiming (r .state)) (size (chip .wheel .n) (r .slots) * r .len) 0
+unfoldable pub cellsOf : Wheel → Record → ℕ
+cellsOf w r = cond (claiming (r .state)) (size (w .n) (r .slots) * r .len) 0
 
 -- "held is the sum over open flows of slots times path length"
-unfoldable pub heldCells : Chip → ℕ → List Record → ℕ
-heldCells chip n list = sum (λ f. cellsOf chip (flow list f)) 0 n
+unfoldable pub heldCells : Wheel → ℕ → List Record → ℕ
+heldCells w n list = sum (λ f. cellsOf w (flow list f)) 0 n

@@ -5,18 +5,22 @@ use mathlib.Core.Bool.{Bool, _&&_, cond}
 use mathlib.Core.List.{List}
 use Prim.Native.Nat.{ℕ, _+_, _-_, _*_, _/_, _%_, _≤_, _<_}
 use lib.ListN.{getD, length}
-use lib.Dec.{eqb}
+use lib.Dec.{eqb, ltb}
 use Rattle.rules.specs.declared.Wheel.{Wheel}
-use Rattle.rules.specs.Sets.{has, any, all, setOf}
+use Rattle.rules.specs.declared.Chip as declared
+use Rattle.rules.specs.Sets.{has, any, all, setOf, listOf}
 
--- what the chip is: its wheel, and its channels 0, .., channels - 1
-pub record Chip : Type 0 where
-  pub wheel : Wheel
-  pub channels : ℕ
+-- what the chip is
+abbrev pub Chip : Type 0
+Chip = declared.Chip
 
 -- the chip that a wheel and a table of 64 bytes for each channel are of
 abbrev pub chipOf : Wheel → List ℕ → Chip
 chipOf w t = record { wheel = w; channels = length t / 64 }
+
+-- the path with zeros in its unused entries
+unfoldable pub trimmed : List ℕ → ℕ → List ℕ
+trimmed path m = listOf (λ i. cond (ltb i m) (getD path i 0) 0) 0 16
 
 -- "the table has 64 bytes for each of C channels, channel c starting at byte 64 × c": cell j of channel c
 unfoldable pub cell : List ℕ → ℕ → ℕ → ℕ
@@ -64,8 +68,8 @@ pub record Stamped (chip : Chip) (path : List ℕ) (m x v : ℕ) (old new : List
   pub at : (c j : ℕ) → 64 * c + 64 ≤ length old → j < 64 → cell new c j ≡ cond (claims chip path m x c j) v (cell old c j)
 
 -- every entry is a channel of the chip
-pub record Inside (chip : Chip) (path : List ℕ) (m : ℕ) : Type 0 where
-  pub at : (i : ℕ) → i < m → getD path i 0 < chip .channels
+pub record Inside (channels : ℕ) (path : List ℕ) (m : ℕ) : Type 0 where
+  pub at : (i : ℕ) → i < m → getD path i 0 < channels
 
 -- no channel stands twice
 pub record Once (path : List ℕ) (m : ℕ) : Type 0 where

@@ -1,5 +1,6 @@
 -- The wheel and what a set of its slots delivers: the ranges, rule 2 and rule 3.
 -- Slots are counted round the wheel: slot i is slot i mod N, so that no rule names the wrap.
+use mathlib.Core.Path.{_≡_}
 use mathlib.Core.Bool.{Bool, not, _&&_, cond}
 use Prim.Native.Nat.{ℕ, suc, _+_, _-_, _*_, _/_, _%_, _≤_, _<_}
 use Rattle.rules.specs.declared.Wheel.{Wheel}
@@ -14,6 +15,11 @@ pub record Legal (w : Wheel) : Type 0 where
   pub h : w .h .0 < w .s .0
   pub p1 : 1 ≤ w .p
   pub p64 : w .p ≤ 64
+
+-- what a measure of a set promises: the value that the rules give, and 0 for a wheel outside its ranges
+pub record Measured (w : Wheel) (value r : ℕ) : Type 0 where
+  pub good : Legal w → r ≡ value
+  pub bad : ¬ Legal w → r ≡ 0
 
 -- slot i, counted round the wheel, is chosen
 unfoldable pub chosen : ℕ → ℕ → ℕ → Bool

@@ -10,7 +10,7 @@ use Rattle.rules.specs.Wheels.{Legal, words, largestGap}
 use Rattle.rules.specs.Numbers.{Refuses, Passes}
 use Rattle.rules.specs.Orders.{selectOrder}
 use Rattle.laws.specs.Answers.{thirteen, not-thirteen, fourteen, whole-meets, not-fourteen}
-use Rattle.optimum.specs.Answer.{Asked}
+use Rattle.optimum.specs.Answer.{Meetable}
 
 -- ---- what can be said before the free slots are measured
 
@@ -58,8 +58,8 @@ module _ (w : Wheel) (free W L : ℕ) (p : Posed w free W L) where
         inr ((λ bad. bad (p .legal)), inr ((λ beyond. beyond (p .fit)), inr (p .some, inr (p .time, inr (delivers, inl (none, refl))))))
 
     module _ (near : largestGap (w .n) free ≤ L) where
-      pub asked : Asked w free W L
-      asked =
+      pub meetable : Meetable w free W L
+      meetable =
           record { legal = p .legal; fit = p .fit; some = w1; l1 = omega (arith, p .time); meets = whole-meets w (p .legal) free W L enough near }
 
       pub passes : Passes (selectOrder w free W L)

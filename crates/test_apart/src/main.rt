@@ -1,5 +1,5 @@
-// Runs the search written apart on what document 01 says of bare selection, so that it can be
-// trusted where the library is held against it. A path of one channel: the largest allowed gap is
+// Runs the searches written apart on what document 01 says of bare selection, so that they can be
+// trusted where the library is held against them. A path of one channel: the largest allowed gap is
 // one less than the deadline.
 use apart::Found;
 use libc::STDOUT_FILENO;
@@ -109,6 +109,21 @@ fn refusals() {
     show(b"N 17", apart::search(17, 3, 1, 3, 255, 1, 1));
 }
 
+// Whether two searches found the same.
+fn same(a: Found, b: Found) -> bool {
+    a.no == b.no && a.slots == b.slots && a.count == b.count && a.words == b.words
+}
+
+// What both searches found; counted nowhere where they differ.
+fn searched(n: u64, free: u64, wanted: u64, limit: u64) -> Found {
+    let f = apart::search(n, 3, 1, 3, free, wanted, limit);
+    if same(f, exact::search(n, 3, 1, 3, free, wanted, limit)) {
+        f
+    } else {
+        apart::refused(99)
+    }
+}
+
 // Every limit up to one above N.
 fn all_limits(t: Sums, n: u64, free: u64, wanted: u64) -> Sums {
     if 16 < n {
@@ -117,7 +132,7 @@ fn all_limits(t: Sums, n: u64, free: u64, wanted: u64) -> Sums {
     let mut sum = t;
     let mut limit = 1;
     while limit <= n + 1 {
-        sum = noted(sum, apart::search(n, 3, 1, 3, free, wanted, limit));
+        sum = noted(sum, searched(n, free, wanted, limit));
         limit += 1;
     }
     sum

@@ -1,4 +1,4 @@
--- What the walks of this program cite and show: one entry for each function, in the words of its contract (`lent`'s `Callee.antt`).
+-- What the walks of this program cite and show: one entry for each function, in the words of its contract (`lent`'s `Slices.antt`).
 -- Assumes nothing.
 use mathlib.Core.Path.{_≡_}
 use mathlib.Core.List.{[], _∷_}
@@ -9,10 +9,12 @@ use prog.Wp.{Heap}
 use ghost.Atoms.{Atoms}
 use types.Kit.{Given}
 use denote.Builtin.{u8}
+use Rattle.rules.specs.Tells.{Tells}
 use Rattle.rules.specs.Paths.{chipOf}
+use Rattle.rules.specs.Orders.{Agrees}
 use Rattle.rules.specs.Promises.{Opens, Closes, Reports}
-use Rattle.lent.proofs.Rows.{Known, struct, word, path, wheel, demand}
-use Rattle.lent.proofs.Callee.{Lending, Shown, Plainly}
+use Rattle.lent.proofs.Rows.{Known, struct, word, truth, path, wheel, demand}
+use Rattle.lent.proofs.Slices.{reads, writes, Over}
 use Rattle.lent.proofs.Local.{records}
 use Rattle.jellyspire.proofs.Core.{opened, cleared, reported}
 use Rattle.test_lent.proofs.OpenedList as O
@@ -27,7 +29,7 @@ module _ {M : Type 1} (𝓤 : URA M) (H : Heap 𝓤) (A : Atoms 𝓤) (W : Given
   abbrev pub clearedList : Known 𝓤 H A
   clearedList = struct 𝓤 H A W C.the-type C′.the-laws C′.the-plain C′.the-copy
 
-  abbrev pub OpenedMade : Plainly 𝓤 H A
+  abbrev pub OpenedMade : Over 𝓤 H A []
   OpenedMade = record {
     takes = opened 𝓤 H A W ∷ records 𝓤 H A W 16 ∷ [];
     gives = openedList;
@@ -35,7 +37,7 @@ module _ {M : Type 1} (𝓤 : URA M) (H : Heap 𝓤) (A : Atoms 𝓤) (W : Given
     holds = λ a r. (r .answer ≡ a .0) × (r .list ≡ a .1 .0);
   }
 
-  abbrev pub ClearedMade : Plainly 𝓤 H A
+  abbrev pub ClearedMade : Over 𝓤 H A []
   ClearedMade = record {
     takes = cleared 𝓤 H A W ∷ records 𝓤 H A W 16 ∷ [];
     gives = clearedList;
@@ -43,15 +45,16 @@ module _ {M : Type 1} (𝓤 : URA M) (H : Heap 𝓤) (A : Atoms 𝓤) (W : Given
     holds = λ a r. (r .answer ≡ a .0) × (r .list ≡ a .1 .0);
   }
 
-  abbrev pub Open : Lending 𝓤 H A u8
+  abbrev pub Open : Over 𝓤 H A (writes u8 ∷ [])
   Open = record {
     takes = records 𝓤 H A W 16 ∷ wheel 𝓤 H A W ∷ word 𝓤 H A W ∷ path 𝓤 H A W ∷ word 𝓤 H A W ∷ demand 𝓤 H A W ∷ [];
     gives = openedList;
     needs = λ t a. emp 𝓤;
-    holds = λ t a r t′. Opens (chipOf (a .1 .0) t) t (length (a .0)) (a .0) (a .1 .1 .1 .0) (a .1 .1 .1 .1 .0) (a .1 .1 .0) (a .1 .1 .1 .1 .1 .0) t′ (r .list) (r .answer);
+    holds = λ t a r t′. Opens (chipOf (a .1 .0) t) t (length (a .0)) (a .0) (a .1 .1 .1 .0)
+        (a .1 .1 .1 .1 .0) (a .1 .1 .0) (a .1 .1 .1 .1 .1 .0) t′ (r .list) (r .answer);
   }
 
-  abbrev pub Close : Lending 𝓤 H A u8
+  abbrev pub Close : Over 𝓤 H A (writes u8 ∷ [])
   Close = record {
     takes = records 𝓤 H A W 16 ∷ wheel 𝓤 H A W ∷ word 𝓤 H A W ∷ [];
     gives = clearedList;
@@ -59,10 +62,18 @@ module _ {M : Type 1} (𝓤 : URA M) (H : Heap 𝓤) (A : Atoms 𝓤) (W : Given
     holds = λ t a r t′. Closes (chipOf (a .1 .0) t) t (length (a .0)) (a .0) (a .1 .1 .0) t′ (r .list) (r .answer);
   }
 
-  abbrev pub Report : Shown 𝓤 H A u8
+  abbrev pub Report : Over 𝓤 H A (reads u8 ∷ [])
   Report = record {
     takes = records 𝓤 H A W 16 ∷ wheel 𝓤 H A W ∷ [];
     gives = reported 𝓤 H A W;
     needs = λ t a. emp 𝓤;
     holds = λ t a r. Reports (chipOf (a .1 .0) t) t (length (a .0)) (a .0) r;
+  }
+
+  abbrev pub Agree : Over 𝓤 H A (reads u8 ∷ [])
+  Agree = record {
+    takes = records 𝓤 H A W 16 ∷ wheel 𝓤 H A W ∷ [];
+    gives = truth 𝓤 H A W;
+    needs = λ t a. emp 𝓤;
+    holds = λ t a r. Tells r (Agrees (chipOf (a .1 .0) t) t (length (a .0)) (a .0));
   }

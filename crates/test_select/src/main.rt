@@ -1,6 +1,7 @@
-// Holds bare selection against the search written apart: on what document 01 says of it, on
+// Holds bare selection against the searches written apart: on what document 01 says of it, on
 // refusals that meet, and on every free set of small wheels with every number of words and every
-// limit. A selection is printed as a set in decimals, how many slots, and words; or as a no.
+// limit; there the exact search, which other tests use above N 10, is held against the search through
+// all sets too. A selection is printed as a set in decimals, how many slots, and words; or as a no.
 use apart::Found;
 use libc::STDOUT_FILENO;
 use rules::Selected;
@@ -226,12 +227,12 @@ fn largest_values() {
     );
 }
 
-// The literal search apart, which measures every set anew.
-fn literal(w: Wheel, free: u64, words: u16, limit: u16) -> Found {
+// The exact search apart, which fills tables from each start.
+fn exact(w: Wheel, free: u64, words: u16, limit: u16) -> Found {
     let n = long(w.n);
     let s = wide(w.s.0);
     let h = wide(w.h.0);
-    apart::search(n, s, h, long(w.p), free, wide(words), wide(limit))
+    exact::search(n, s, h, long(w.p), free, wide(words), wide(limit))
 }
 
 // What both searches apart found; no answer of the library's where they differ.
@@ -247,7 +248,12 @@ fn agreed(a: Found, b: Found) -> Found {
     }
 }
 
-// One selection beside the search apart, from tables and, on small wheels, the literal one.
+// Whether the exact search is run too: at every free set up to N 8, and above that at each eighth.
+fn both(n: usize, free: u64) -> bool {
+    n <= 8 || free % 8 == 7
+}
+
+// One selection beside the search apart through all sets, and the exact one.
 fn one(
     t: Tally,
     words_of: &[u64; 1024],
@@ -271,10 +277,10 @@ fn one(
         wide(words),
         wide(limit),
     );
-    if 5 < w.n {
+    if !both(w.n, free) {
         return noted(t, a, b);
     }
-    noted(t, a, agreed(b, literal(w, free, words, limit)))
+    noted(t, a, agreed(b, exact(w, free, words, limit)))
 }
 
 // Every limit up to `last`, which is one above N.

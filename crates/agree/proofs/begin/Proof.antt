@@ -7,18 +7,12 @@ use Rattle.laws.specs.Logic.{tells-yes, tells-no}
 use Rattle.agree.proofs.begin.Statement.{statement}
 use Rattle.agree.proofs.begin.Tie as tie
 
-legal-requires : tie.Need-legal-requires
-legal-requires c κs = search needs
-
 returns : tie.Need-returns
 returns c = (tells-no (λ r. c .before .legal .ensures .no (not-true _ (c .if1 .taken)) (r .legal)), refl)
 
-is-table-requires : tie.Need-is-table-requires
-is-table-requires c κs = search needs
-
 returns-2 : tie.Need-returns-2
 returns-2 c =
-    (tells-no (λ r. c .before .is-table .ensures (c .before .before .before .before .before .args .w) .no (not-true _ (c .if2 .taken)) (r .tabled)), refl)
+    (tells-no (λ r. c .before .is-table .ensures .no (not-true _ (c .if2 .taken)) (r .tabled)), refl)
 
 returns-3 : tie.Need-returns-3
 returns-3 c = (tells-no (λ r. omega (arith, r .listed .some)), refl)
@@ -33,7 +27,7 @@ returns-5 c =
       tells-yes
           (record {
             legal = wheel .legal .ensures .yes (not-false _ (table .before .if1 .left));
-            tabled = table .is-table .ensures (wheel .before .before .args .w) .yes (not-false _ (c .before .before .if2 .left));
+            tabled = table .is-table .ensures .yes (not-false _ (c .before .before .if2 .left));
             listed = record { some = omega arith; most = omega arith };
           }),
       refl,
@@ -42,4 +36,4 @@ returns-5 c =
 pub begin-spec : {M : Type 1} → statement M
 begin-spec =
     tie.close
-    (tie.spec legal-requires returns is-table-requires returns-2 returns-3 returns-4 returns-5)
+    (tie.spec (λ c κs. search needs) returns (λ c κs. search needs) returns-2 returns-3 returns-4 returns-5)

@@ -9,9 +9,6 @@ use Rattle.agree.proofs.settle.Tie as tie
 returns : tie.Need-returns
 returns c = tells-no (λ p. not-both (p .0) (not-true _ (c .if1 .taken)))
 
-count-used-requires : tie.Need-count-used-requires
-count-used-requires c κs = search needs
-
 returns-2 : tie.Need-returns-2
 returns-2 c =
     let used = c .before .count-used .ensures in
@@ -21,4 +18,4 @@ returns-2 c =
     }
 
 pub settle-spec : {M : Type 1} → statement M
-settle-spec = tie.close (tie.spec returns count-used-requires returns-2)
+settle-spec = tie.close (tie.spec returns (λ c κs. search needs) returns-2)

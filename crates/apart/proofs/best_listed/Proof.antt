@@ -10,37 +10,16 @@ Inv-loop words-of gap-of rank-of free wanted limit best₀ y₀ best y = y ≤ f
 abbrev μ-loop : tie.MeasureT-loop
 μ-loop words-of gap-of rank-of free wanted limit best₀ y₀ best y = y
 
-loop-holds : tie.Need-loop-holds Inv-loop μ-loop
-loop-holds c = search needs
-
-inside-requires : tie.Need-inside-requires Inv-loop μ-loop
-inside-requires c κs = search needs
-
-kept-listed-requires : tie.Need-kept-listed-requires Inv-loop μ-loop
-kept-listed-requires c κs = search needs
-
-sub-y : tie.Need-sub-y Inv-loop μ-loop
-sub-y c = search needs
-
-loop-less : tie.Need-loop-less Inv-loop μ-loop
-loop-less c = search needs
-
-loop-again : tie.Need-loop-again Inv-loop μ-loop
-loop-again c = search needs
-
-returns : tie.Need-returns Inv-loop μ-loop
-returns c = search needs
-
 pub best-listed-spec : {M : Type 1} → statement M
 best-listed-spec =
     tie.close
     (tie.spec
     Inv-loop
     μ-loop
-    loop-holds
-    inside-requires
-    kept-listed-requires
-    sub-y
-    loop-less
-    loop-again
-    returns)
+    (λ c. search needs)
+    (λ c κs. search needs)
+    (λ c κs. search needs)
+    (λ c. search needs)
+    (λ c. search needs)
+    (λ c. search needs)
+    (λ c. search needs))

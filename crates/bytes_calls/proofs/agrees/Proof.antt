@@ -4,14 +4,8 @@ use borrow.Author.Needs.{needs}
 use Rattle.bytes_calls.proofs.agrees.Statement.{statement}
 use Rattle.bytes_calls.proofs.agrees.Tie as tie
 
-check-requires : tie.Need-check-requires
-check-requires c κs = search needs
-
-settle-requires : tie.Need-settle-requires
-settle-requires c κs = search needs
-
 returns : tie.Need-returns
 returns c = settles _ _ _ _ _ _ (c .before .check .ensures) (c .settle .ensures)
 
 pub agrees-spec : {M : Type 1} → statement M
-agrees-spec = tie.close (tie.spec check-requires settle-requires returns)
+agrees-spec = tie.close (tie.spec (λ c κs. search needs) (λ c κs. search needs) returns)

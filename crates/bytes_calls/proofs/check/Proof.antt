@@ -3,7 +3,6 @@ use mathlib.Core.Path.{_≡_}
 use Prim.Native.Nat.{_-_, _≤_}
 use native.Mathlib.Omega.{arith}
 use borrow.Author.Tests.{not-true, not-false}
-use Rattle.rules.specs.Paths.{chipOf}
 use Rattle.agree.specs.Checks.{Checks, checks-none, checks-given-up, checks-all}
 use Rattle.bytes_list.specs.Layout.{countOf, listIn}
 use Rattle.bytes_calls.specs.OverBytes.{record-room, checks-next, checks-counted}
@@ -12,16 +11,10 @@ use Rattle.bytes_calls.proofs.check.Statement.{statement}
 use Rattle.bytes_calls.proofs.check.Tie as tie
 
 abbrev Inv-loop : tie.InvT-loop
-Inv-loop table w list n c₀ f₀ c f = (f ≤ n) × (n ≤ 64) × (n ≡ countOf list) × Checks (chipOf w table) table n (listIn list) f c
+Inv-loop table list chip n c₀ f₀ c f = (f ≤ n) × (n ≤ 64) × (n ≡ countOf list) × Checks chip table n (listIn list) f c
 
 abbrev μ-loop : tie.MeasureT-loop
-μ-loop table w list n c₀ f₀ c f = n - f
-
-count-of-requires : tie.Need-count-of-requires Inv-loop μ-loop
-count-of-requires c κs = search needs
-
-begin-requires : tie.Need-begin-requires Inv-loop μ-loop
-begin-requires c κs = search needs
+μ-loop table list chip n c₀ f₀ c f = n - f
 
 returns : tie.Need-returns Inv-loop μ-loop
 returns c =
@@ -35,9 +28,6 @@ loop-holds c =
     let ready = b .0 .yes (not-false _ (c .if1 .left)) in
     (omega arith, ready .listed .most, c .before .before .before .count-of .ensures, checks-none _ _ _ _ _ (b .0) (b .1))
 
-mul-at : tie.Need-mul-at Inv-loop μ-loop
-mul-at c = omega arith
-
 record-at-requires : tie.Need-record-at-requires Inv-loop μ-loop
 record-at-requires c κs =
     let list = c .before .before .before .before .before .before .before .before .args .list .now in
@@ -48,16 +38,15 @@ step-requires c κs =
     let k = c .before .before .loop .inv .3 in
     ((λ e. (k .ready e .legal, k .ready e .tabled)), omega (arith, k .small))
 
-add-f : tie.Need-add-f Inv-loop μ-loop
-add-f c = omega arith
-
-loop-less : tie.Need-loop-less Inv-loop μ-loop
-loop-less c = omega arith
-
 loop-again : tie.Need-loop-again Inv-loop μ-loop
 loop-again c =
-    let at = c .before .before .before .loop in
-    (omega arith, at .inv .1, at .inv .2, checks-next _ _ _ _ (at .inv .2) (at .f) _ _ _ (c .before .before .loop-test .taken) (c .before .record-at .ensures) (at .inv .3) (c .step .ensures))
+    let at = c .before .before .before .loop in (
+      omega arith,
+      at .inv .1,
+      at .inv .2,
+      checks-next _ _ _ _ (at .inv .2) (at .f) _ _ _
+          (c .before .before .loop-test .taken) (c .before .record-at .ensures) (at .inv .3) (c .step .ensures),
+    )
 
 returns-2 : tie.Need-returns-2 Inv-loop μ-loop
 returns-2 c =
@@ -70,14 +59,14 @@ check-spec =
     (tie.spec
     Inv-loop
     μ-loop
-    count-of-requires
-    begin-requires
+    (λ c κs. search needs)
+    (λ c κs. search needs)
     returns
     loop-holds
-    mul-at
+    (λ c. omega arith)
     record-at-requires
     step-requires
-    add-f
-    loop-less
+    (λ c. omega arith)
+    (λ c. omega arith)
     loop-again
     returns-2)

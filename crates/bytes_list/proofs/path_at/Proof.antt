@@ -21,31 +21,14 @@ abbrev μ-loop : tie.MeasureT-loop
 loop-holds : tie.Need-loop-holds Inv-loop μ-loop
 loop-holds c = (omega arith, refl, λ k h. absurd (omega arith))
 
-add-number-at : tie.Need-add-number-at Inv-loop μ-loop
-add-number-at c = search needs
-
-number-at-requires : tie.Need-number-at-requires Inv-loop μ-loop
-number-at-requires c κs = search needs
-
-mul-path : tie.Need-mul-path Inv-loop μ-loop
-mul-path c = search needs
-
-array-write-path : tie.Need-array-write-path Inv-loop μ-loop
-array-write-path c = search needs
-
-add-i : tie.Need-add-i Inv-loop μ-loop
-add-i c = search needs
-
-loop-less : tie.Need-loop-less Inv-loop μ-loop
-loop-less c = search needs
-
 loop-again : tie.Need-loop-again Inv-loop μ-loop
 loop-again c =
     let at = c .before .before .loop in (
       omega arith,
       simp length-set (at .inv .1),
       λ k h. ⊎-elim
-          (λ (e : suc k ≡ at .i + 1). let same : k ≡ at .i = omega arith in rw same (getD-set-same (at .path) (at .i) _ 0 (omega arith) ∙ c .number-at .ensures))
+          (λ (e : suc k ≡ at .i + 1). let same : k ≡ at .i = omega arith in
+          rw same (getD-set-same (at .path) (at .i) _ 0 (omega arith) ∙ c .number-at .ensures))
           (λ (e : suc k < at .i + 1). getD-set-other (at .path) (at .i) k _ 0 (λ q. omega arith) ∙ at .inv .2 k (omega arith)) (eq-or-lt-of-le h),
     )
 
@@ -59,11 +42,11 @@ path-at-spec =
     Inv-loop
     μ-loop
     loop-holds
-    add-number-at
-    number-at-requires
-    mul-path
-    array-write-path
-    add-i
-    loop-less
+    (λ c. search needs)
+    (λ c κs. search needs)
+    (λ c. search needs)
+    (λ c. search needs)
+    (λ c. search needs)
+    (λ c. search needs)
     loop-again
     returns)

@@ -21,21 +21,9 @@ loop-holds : tie.Need-loop-holds Inv-loop μ-loop
 unfolding all
 loop-holds c = (omega arith, refl)
 
-add-number-at : tie.Need-add-number-at Inv-loop μ-loop
-add-number-at c = search needs
-
-number-at-requires : tie.Need-number-at-requires Inv-loop μ-loop
-number-at-requires c κs = search needs
-
 returns : tie.Need-returns Inv-loop μ-loop
 unfolding isZero
 returns c = sym (all-no _ 8 (c .before .before .before .loop .j) (omega arith) (ne-eqb _ 0 (λ e. c .if1 .taken (c .before .number-at .ensures ∙ e))))
-
-add-j : tie.Need-add-j Inv-loop μ-loop
-add-j c = search needs
-
-loop-less : tie.Need-loop-less Inv-loop μ-loop
-loop-less c = search needs
 
 loop-again : tie.Need-loop-again Inv-loop μ-loop
 unfolding isZero
@@ -53,10 +41,10 @@ rest-zero-spec =
     Inv-loop
     μ-loop
     loop-holds
-    add-number-at
-    number-at-requires
+    (λ c. search needs)
+    (λ c κs. search needs)
     returns
-    add-j
-    loop-less
+    (λ c. search needs)
+    (λ c. search needs)
     loop-again
     returns-2)

@@ -5,23 +5,12 @@ use borrow.Author.Needs.{needs}
 use Rattle.bytes_list.proofs.state_at.Statement.{statement}
 use Rattle.bytes_list.proofs.state_at.Tie as tie
 
-is-record-requires : tie.Need-is-record-requires
-is-record-requires c κs = search needs
-
 returns : tie.Need-returns
 returns c = state-none _ _ (c .before .is-record .ensures) (not-true _ (c .if1 .taken))
 
-number-at-requires : tie.Need-number-at-requires
-number-at-requires c κs = search needs
-
 returns-2 : tie.Need-returns-2
-returns-2 c = state-closed _ _ (c .before .before .before .is-record .ensures) (not-false _ (c .before .before .if1 .left)) _ (c .before .number-at .ensures) (c .if2 .taken)
-
-number-at-requires-2 : tie.Need-number-at-requires-2
-number-at-requires-2 c κs = search needs
-
-number-at-requires-3 : tie.Need-number-at-requires-3
-number-at-requires-3 c κs = search needs
+returns-2 c = state-closed _ _ (c .before .before .before .is-record .ensures)
+    (not-false _ (c .before .before .if1 .left)) _ (c .before .number-at .ensures) (c .if2 .taken)
 
 returns-3 : tie.Need-returns-3
 returns-3 c =
@@ -34,10 +23,10 @@ pub state-at-spec : {M : Type 1} → statement M
 state-at-spec =
     tie.close
     (tie.spec
-    is-record-requires
+    (λ c κs. search needs)
     returns
-    number-at-requires
+    (λ c κs. search needs)
     returns-2
-    number-at-requires-2
-    number-at-requires-3
+    (λ c κs. search needs)
+    (λ c κs. search needs)
     returns-3)

@@ -4,12 +4,6 @@ use borrow.Author.Needs.{needs}
 use Rattle.bytes_list.proofs.state_number.Statement.{statement}
 use Rattle.bytes_list.proofs.state_number.Tie as tie
 
-enum-told : tie.Need-enum-told
-enum-told c = search needs
-
-enum-known-s : tie.Need-enum-known-s
-enum-known-s c = search needs
-
 returns : tie.Need-returns
 returns c = open-number _ _ (c .before .before .s .given .1) _ (c .if1 .taken)
 
@@ -24,4 +18,4 @@ returns-4 c = deadline-number _ _ (c .before .before .before .s .given .1) _ (c 
 
 pub state-number-spec : {M : Type 1} → statement M
 state-number-spec =
-    tie.close (tie.spec enum-told enum-known-s returns returns-2 returns-3 returns-4)
+    tie.close (tie.spec (λ c. search needs) (λ c. search needs) returns returns-2 returns-3 returns-4)

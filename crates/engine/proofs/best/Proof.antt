@@ -1,8 +1,9 @@
 -- A wheel of one slot, the full wheel, or what the search found.
 use mathlib.Core.Path.{refl}
+use Prim.Native.Nat.{_≤_}
 use native.Mathlib.Omega.{arith}
 use borrow.Author.Needs.{needs}
-use Rattle.optimum.specs.Answer.{one-grants, none-grants, found-grants}
+use Rattle.optimum.specs.Answer.{sound, one-grants, none-grants, found-grants}
 use Rattle.engine.proofs.best.Statement.{statement}
 use Rattle.engine.proofs.best.Tie as tie
 
@@ -11,34 +12,38 @@ whole-requires c κs = c .before .pre .legal
 
 returns : tie.Need-returns
 returns c =
+    let st = c .before .before in
+    let a = st .args in
     let r = c .whole .ensures in
-    one-grants (c .before .before .args .w) (c .before .before .args .free) (c .before .before .args .words .0) (c .before .before .args .limit) (c .before .before .pre) (omega (arith, c .before .before .pre .legal .n1)) _ (r .0) (r .1) (r .2)
-
-smaller-requires : tie.Need-smaller-requires
-smaller-requires c κs = search needs
-
-slice-aggregate-search : tie.Need-slice-aggregate-search
-slice-aggregate-search c = search needs
-
-slice-aggregate-search-2 : tie.Need-slice-aggregate-search-2
-slice-aggregate-search-2 c = search needs
+    one-grants (a .w) (a .free) (a .words .0) (a .limit) (st .pre) (omega (arith, st .pre .legal .n1)) _ (r .0) (r .1) (r .2)
 
 search-requires : tie.Need-search-requires
-search-requires c κs = ((record { legal = c .before .before .before .before .pre .legal; two = omega arith; some = c .before .before .before .before .pre .some; l1 = omega (arith, c .before .before .smaller .ensures, c .before .before .before .before .pre .l1, c .before .before .before .before .pre .legal .n1); l64 = omega (arith, c .before .before .smaller .ensures, c .before .before .before .before .pre .legal .n64); fit = c .before .before .before .before .pre .fit }), (refl, refl))
+search-requires c κs =
+    let st = c .before .before .before .before in
+    let two : 2 ≤ st .args .w .n = omega arith in
+    (sound _ (st .args .limit) (c .before .before .smaller .ensures) (st .pre) two, (refl, refl))
 
 whole-requires-2 : tie.Need-whole-requires-2
 whole-requires-2 c κs = c .before .before .before .before .before .before .before .before .before .pre .legal
 
 returns-2 : tie.Need-returns-2
 returns-2 c =
+    let st = c .before .before .before .before .before .before .before .before .before .before in
+    let two : 2 ≤ st .args .w .n = omega arith in
     let r = c .whole2 .ensures in
-    none-grants _ (record { legal = c .before .before .before .before .before .before .before .before .before .before .pre .legal; two = omega arith; some = c .before .before .before .before .before .before .before .before .before .before .pre .some; l1 = omega (arith, c .before .before .before .before .before .before .before .before .smaller .ensures, c .before .before .before .before .before .before .before .before .before .before .pre .l1, c .before .before .before .before .before .before .before .before .before .before .pre .legal .n1); l64 = omega (arith, c .before .before .before .before .before .before .before .before .smaller .ensures, c .before .before .before .before .before .before .before .before .before .before .pre .legal .n64); fit = c .before .before .before .before .before .before .before .before .before .before .pre .fit }) (c .before .before .before .before .before .before .before .before .before .before .args .limit) (c .before .before .before .before .before .before .before .before .smaller .ensures) (c .before .before .before .before .before .before .before .before .before .before .pre) _ (c .before .before .before .before .before .search .ensures) (c .before .if2 .taken) _ (r .0) (r .1) (r .2)
-
-sub-t17 : tie.Need-sub-t17
-sub-t17 c = search needs
+    let cut = c .before .before .before .before .before .before .before .before .smaller .ensures in
+    let searched = c .before .before .before .before .before .search .ensures in
+    none-grants _ (st .args .limit) cut (st .pre) two _ searched (c .before .if2 .taken) _
+    (r .0) (r .1) (r .2)
 
 returns-3 : tie.Need-returns-3
-returns-3 c = found-grants _ (record { legal = c .before .before .before .before .before .before .before .before .before .before .pre .legal; two = omega arith; some = c .before .before .before .before .before .before .before .before .before .before .pre .some; l1 = omega (arith, c .before .before .before .before .before .before .before .before .smaller .ensures, c .before .before .before .before .before .before .before .before .before .before .pre .l1, c .before .before .before .before .before .before .before .before .before .before .pre .legal .n1); l64 = omega (arith, c .before .before .before .before .before .before .before .before .smaller .ensures, c .before .before .before .before .before .before .before .before .before .before .pre .legal .n64); fit = c .before .before .before .before .before .before .before .before .before .before .pre .fit }) (c .before .before .before .before .before .before .before .before .before .before .args .limit) (c .before .before .before .before .before .before .before .before .smaller .ensures) (c .before .before .before .before .before .before .before .before .before .before .pre) _ (c .before .before .before .before .before .search .ensures) (c .before .if2 .left) _ refl refl refl
+returns-3 c =
+    let st = c .before .before .before .before .before .before .before .before .before .before in
+    let two : 2 ≤ st .args .w .n = omega arith in
+    let cut = c .before .before .before .before .before .before .before .before .smaller .ensures in
+    let searched = c .before .before .before .before .before .search .ensures in
+    found-grants _ (st .args .limit) cut (st .pre) two _ searched (c .before .if2 .left) _
+    refl refl refl
 
 pub best-spec : {M : Type 1} → statement M
 best-spec =
@@ -46,11 +51,11 @@ best-spec =
     (tie.spec
     whole-requires
     returns
-    smaller-requires
-    slice-aggregate-search
-    slice-aggregate-search-2
+    (λ c κs. search needs)
+    (λ c. search needs)
+    (λ c. search needs)
     search-requires
     whole-requires-2
     returns-2
-    sub-t17
+    (λ c. search needs)
     returns-3)

@@ -30,12 +30,6 @@ hopeless-requires c κs =
     let told = c .before .before .before in
     (told .before .before .before .pre .0, (sofar-range (c .before .loop .inv .4), told .fewest .ensures))
 
-same-length : tie.Need-same-length Inv-loop μ-loop
-same-length c = omega arith
-
-same-length-2 : tie.Need-same-length-2 Inv-loop μ-loop
-same-length-2 c = omega arith
-
 returns : tie.Need-returns Inv-loop μ-loop
 returns c =
     let at = c .before .before .before in
@@ -54,20 +48,11 @@ add-t c =
     let at = c .before .before .before .before .before .before .before .before .before .before in
     omega (arith, at .loop .inv, at .before .before .before .before .before .pre .0 .legal .n64)
 
-loop-less : tie.Need-loop-less Inv-loop μ-loop
-loop-less c = omega arith
-
 loop-again : tie.Need-loop-again Inv-loop μ-loop
 loop-again c =
     let inv = c .before .before .before .before .before .before .before .before .before .before .loop .inv in
     let tried = c .before .before .before .before .try-start in
     (omega arith, inv .1, tried .kept .0 ∙ inv .2, tried .kept .1 .0 ∙ inv .3, tried .ensures)
-
-same-length-3 : tie.Need-same-length-3 Inv-loop μ-loop
-same-length-3 c = omega arith
-
-same-length-4 : tie.Need-same-length-4 Inv-loop μ-loop
-same-length-4 c = omega arith
 
 returns-2 : tie.Need-returns-2 Inv-loop μ-loop
 returns-2 c =
@@ -84,13 +69,13 @@ search-spec =
     enough-requires
     loop-holds
     hopeless-requires
-    same-length
-    same-length-2
+    (λ c. omega arith)
+    (λ c. omega arith)
     returns
     try-start-requires
     add-t
-    loop-less
+    (λ c. omega arith)
     loop-again
-    same-length-3
-    same-length-4
+    (λ c. omega arith)
+    (λ c. omega arith)
     returns-2)

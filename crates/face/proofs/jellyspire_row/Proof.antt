@@ -6,15 +6,6 @@ use borrow.Author.Needs.{needs}
 use Rattle.face.proofs.jellyspire_row.Statement.{statement}
 use Rattle.face.proofs.jellyspire_row.Tie as tie
 
-wheel-of-requires : tie.Need-wheel-of-requires
-wheel-of-requires c κs = search needs
-
-row-requires : tie.Need-row-requires
-row-requires c κs = search needs
-
-size-of-requires : tie.Need-size-of-requires
-size-of-requires c κs = search needs
-
 returns : tie.Need-returns
 returns c =
     let row = c .before .before in
@@ -32,4 +23,4 @@ returns-2 c =
 
 pub jellyspire-row-spec : {M : Type 1} → statement M
 jellyspire-row-spec =
-    tie.close (tie.spec wheel-of-requires row-requires size-of-requires returns mul-t8 returns-2)
+    tie.close (tie.spec (λ c κs. search needs) (λ c κs. search needs) (λ c κs. search needs) returns mul-t8 returns-2)

@@ -6,20 +6,8 @@ use borrow.Author.Needs.{needs}
 use Rattle.face.proofs.selection_of.Statement.{statement}
 use Rattle.face.proofs.selection_of.Tie as tie
 
-enum-known-a : tie.Need-enum-known-a
-enum-known-a c = search needs
-
 cast-t5 : tie.Need-cast-t5
 cast-t5 c = omega (arith, few-granted _ _ (c .before .before .a .given .1) (c .before .before .before .before .pre))
-
-enum-known-a-2 : tie.Need-enum-known-a-2
-enum-known-a-2 c = search needs
-
-number-requires : tie.Need-number-requires
-number-requires c κs = search needs
-
-wide-requires : tie.Need-wide-requires
-wide-requires c κs = search needs
 
 returns : tie.Need-returns
 returns c = granted-struct _ _ (c .before .before .a .given .1)
@@ -30,4 +18,4 @@ returns-2 c = refused-struct _ _ _ (c .before .before .before .a2 .given .1) (c 
 pub selection-of-spec : {M : Type 1} → statement M
 selection-of-spec =
     tie.close
-    (tie.spec enum-known-a cast-t5 enum-known-a-2 number-requires wide-requires returns returns-2)
+    (tie.spec (λ c. search needs) cast-t5 (λ c. search needs) (λ c κs. search needs) (λ c κs. search needs) returns returns-2)

@@ -10,9 +10,6 @@ returns c = tells-no (λ f. c .if1 .taken (f .len))
 returns-2 : tie.Need-returns-2
 returns-2 c = tells-no (λ f. c .if2 .taken (f .slots))
 
-rest-requires : tie.Need-rest-requires
-rest-requires c κs = search needs
-
 returns-3 : tie.Need-returns-3
 returns-3 c =
     record {
@@ -21,4 +18,4 @@ returns-3 c =
     }
 
 pub blank-spec : {M : Type 1} → statement M
-blank-spec = tie.close (tie.spec returns returns-2 rest-requires returns-3)
+blank-spec = tie.close (tie.spec returns returns-2 (λ c κs. search needs) returns-3)

@@ -5,12 +5,6 @@ use Rattle.rules.specs.Flows.{claiming}
 use Rattle.flows.proofs.claims_cells.Statement.{statement}
 use Rattle.flows.proofs.claims_cells.Tie as tie
 
-enum-told : tie.Need-enum-told
-enum-told c = search needs
-
-enum-told-2 : tie.Need-enum-told-2
-enum-told-2 c = search needs
-
 returns : tie.Need-returns
 unfolding claiming
 returns c = sym (ap claiming (c .enum-told .given .1))
@@ -20,4 +14,4 @@ unfolding claiming
 returns-2 c = sym (ap claiming (c .enum-told2 .given .1))
 
 pub claims-cells-spec : {M : Type 1} → statement M
-claims-cells-spec = tie.close (tie.spec enum-told enum-told-2 returns returns-2)
+claims-cells-spec = tie.close (tie.spec (λ c. search needs) (λ c. search needs) returns returns-2)

@@ -14,29 +14,11 @@ Inv-loop k path c i₀ i = (i ≤ k) × ((p : ℕ) → p < i → ¬ (getD path p
 abbrev μ-loop : tie.MeasureT-loop
 μ-loop k path c i₀ i = k - i
 
-mul-c : tie.Need-mul-c Inv-loop μ-loop
-mul-c c = omega arith
-
-array-read-c : tie.Need-array-read-c Inv-loop μ-loop
-array-read-c c = omega arith
-
 loop-holds : tie.Need-loop-holds Inv-loop μ-loop
 loop-holds c = (omega arith, λ p h. absurd (omega arith))
 
-mul-if1 : tie.Need-mul-if1 Inv-loop μ-loop
-mul-if1 c = omega arith
-
-array-read-if1 : tie.Need-array-read-if1 Inv-loop μ-loop
-array-read-if1 c = omega arith
-
 returns : tie.Need-returns Inv-loop μ-loop
 returns c = tells-no (λ f. f .at (c .before .before .loop .i) (omega arith) (c .if1 .taken))
-
-add-i : tie.Need-add-i Inv-loop μ-loop
-add-i c = omega arith
-
-loop-less : tie.Need-loop-less Inv-loop μ-loop
-loop-less c = omega arith
 
 loop-again : tie.Need-loop-again Inv-loop μ-loop
 loop-again c = (omega arith, below-more _ _ (c .before .before .loop .inv .1) (c .if1 .left))
@@ -50,13 +32,13 @@ fresh-spec =
     (tie.spec
     Inv-loop
     μ-loop
-    mul-c
-    array-read-c
+    (λ c. omega arith)
+    (λ c. omega arith)
     loop-holds
-    mul-if1
-    array-read-if1
+    (λ c. omega arith)
+    (λ c. omega arith)
     returns
-    add-i
-    loop-less
+    (λ c. omega arith)
+    (λ c. omega arith)
     loop-again
     returns-2)

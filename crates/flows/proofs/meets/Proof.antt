@@ -8,14 +8,8 @@ use Rattle.laws.specs.Gaps.{largest-near, near-largest}
 use Rattle.flows.proofs.meets.Statement.{statement}
 use Rattle.flows.proofs.meets.Tie as tie
 
-words-requires : tie.Need-words-requires
-words-requires c κs = search needs
-
 returns : tie.Need-returns
 returns c = tells-no (λ m. omega (arith, c .before .before .words .ensures .good (c .before .before .before .pre), m .delivers))
-
-largest-gap-requires : tie.Need-largest-gap-requires
-largest-gap-requires c κs = search needs
 
 returns-2 : tie.Need-returns-2
 returns-2 c =
@@ -31,4 +25,4 @@ returns-2 c =
     }
 
 pub meets-spec : {M : Type 1} → statement M
-meets-spec = tie.close (tie.spec words-requires returns largest-gap-requires returns-2)
+meets-spec = tie.close (tie.spec (λ c κs. search needs) returns (λ c κs. search needs) returns-2)

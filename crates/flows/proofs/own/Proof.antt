@@ -4,18 +4,6 @@ use Rattle.flows.specs.Tests.{own-closed, own-open}
 use Rattle.flows.proofs.own.Statement.{statement}
 use Rattle.flows.proofs.own.Tie as tie
 
-enum-told : tie.Need-enum-told
-enum-told c = search needs
-
-blank-requires : tie.Need-blank-requires
-blank-requires c κs = search needs
-
-enum-known-s : tie.Need-enum-known-s
-enum-known-s c = search needs
-
-lawful-requires : tie.Need-lawful-requires
-lawful-requires c κs = search needs
-
 returns : tie.Need-returns
 returns c = own-closed _ _ (c .before .enum-told .given .1) (c .blank .ensures)
 
@@ -24,4 +12,4 @@ returns-2 c = own-open _ _ _ (c .before .before .s .given .1) (c .lawful .ensure
 
 pub own-spec : {M : Type 1} → statement M
 own-spec =
-    tie.close (tie.spec enum-told blank-requires enum-known-s lawful-requires returns returns-2)
+    tie.close (tie.spec (λ c. search needs) (λ c κs. search needs) (λ c. search needs) (λ c κs. search needs) returns returns-2)

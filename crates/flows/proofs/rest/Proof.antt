@@ -18,20 +18,8 @@ abbrev μ-loop : tie.MeasureT-loop
 loop-holds : tie.Need-loop-holds Inv-loop μ-loop
 loop-holds c = (omega arith, λ p l h. absurd (omega arith))
 
-mul-if1 : tie.Need-mul-if1 Inv-loop μ-loop
-mul-if1 c = omega arith
-
-array-read-if1 : tie.Need-array-read-if1 Inv-loop μ-loop
-array-read-if1 c = omega arith
-
 returns : tie.Need-returns Inv-loop μ-loop
 returns c = tells-no (λ f. c .if1 .taken (f .at (c .before .before .loop .i) (omega arith) (omega arith)))
-
-add-i : tie.Need-add-i Inv-loop μ-loop
-add-i c = omega arith
-
-loop-less : tie.Need-loop-less Inv-loop μ-loop
-loop-less c = omega arith
 
 loop-again : tie.Need-loop-again Inv-loop μ-loop
 loop-again c =
@@ -51,10 +39,10 @@ rest-spec =
     Inv-loop
     μ-loop
     loop-holds
-    mul-if1
-    array-read-if1
+    (λ c. omega arith)
+    (λ c. omega arith)
     returns
-    add-i
-    loop-less
+    (λ c. omega arith)
+    (λ c. omega arith)
     loop-again
     returns-2)

@@ -12,17 +12,8 @@ within a b c (inl h) = omega arith
 within a b c (inr (inl h)) = omega arith
 within a b c (inr (inr h)) = omega arith
 
-returns : tie.Need-returns
-returns c = search needs
-
-returns-2 : tie.Need-returns-2
-returns-2 c = search needs
-
-returns-3 : tie.Need-returns-3
-returns-3 c = search needs
-
 returns-4 : tie.Need-returns-4
 returns-4 c = record { there = λ a b d. refl; otherwise = λ h. absurd (within (omega arith) (omega arith) (omega arith) h) }
 
 pub place-of-spec : {M : Type 1} → statement M
-place-of-spec = tie.close (tie.spec returns returns-2 returns-3 returns-4)
+place-of-spec = tie.close (tie.spec (λ c. search needs) (λ c. search needs) (λ c. search needs) returns-4)

@@ -1,4 +1,6 @@
--- `lent::record_at` meets its contract: a walk of its MIR, by hand. Where the index is in the list the borrow is looked into, one record is taken out of the row, read and put back, and the borrow is shut; what follows the `if` is one lemma, `finishes`.
+-- `lent::record_at` meets its contract: a walk of its MIR, by hand. Where the index is in the list the borrow is looked into,
+-- one record is taken out of the row, read and put back, and the borrow is shut; what follows the `if` is one lemma,
+-- `finishes`.
 -- Assumes nothing.
 use mathlib.Core.Path.{_≡_, refl, sym, subst}
 use Prim.Native.Nat.{ℕ, _<_, _*_}
@@ -28,12 +30,13 @@ use Rattle.rules.specs.declared.Record.{Record}
 use Rattle.rules.specs.Flows.{none}
 use Rattle.rules.proofs.Record.Laws as Record′
 use Rattle.lent.specs.Lists.{recordAt}
-use Rattle.lent.proofs.Rows.{Rec, word, flow, copies, offset-fits}
-use Rattle.lent.proofs.Callee.{Values, Good, shown}
+use Rattle.lent.proofs.Rows.{record-size, Rec, word, flow, copies, offset-fits}
+use Rattle.lent.proofs.Callee.{Values, Good}
+use Rattle.lent.proofs.Slices.{over}
 use Rattle.lent.proofs.Cited.{RecordAt}
 use Rattle.lent.proofs.Loans.{Handle, slice-of, Shr}
 use Rattle.lent.proofs.Frames.{value, slice, Homes, home, Cell, empty, full, env, frame, allocates, leaves, span, held, held-in, sets}
-use Rattle.lent.proofs.Walked.Shown.{Ends, ends, meets}
+use Rattle.lent.proofs.Walked.Over.{Ends, ends, meets}
 use Rattle.lent.proofs.record_at.Key.{name as #lent·record-at}
 use Rattle.lent.proofs.record_at as record-at
 use Rattle.lent.proofs.record_at.Statement as stated
@@ -41,11 +44,13 @@ use Rattle.lent.proofs.record_at.Code as code
 use Rattle.lent.proofs.record_at.Code.Mir as body
 
 abbrev locals : List Local
-locals = value Record′.mir ++ (slice (named 0) imm Rec ++ (value (tyInt w64) ++ (value Record′.mir ++ (value (tyInt w64) ++ (value tyBool ++ (value Record′.mir ++ (value (tyInt w64) ++ (value tyPtr ++ value Record′.mir))))))))
+locals = value Record′.mir ++ (slice (named 0) imm Rec ++ (value (tyInt w64) ++
+    (value Record′.mir ++ (value (tyInt w64) ++ (value tyBool ++ (value Record′.mir ++ (value (tyInt w64) ++ (value tyPtr ++ value Record′.mir))))))))
 
 -- the two arms, which the generated MIR has under no name
 abbrev in-arm : Body
-in-arm = seq (assign (place 7 []) (op2 (mul unsigned) (copy (place 2 [])) (int w64 56))) (seq (assign (place 8 []) (op2 offset (copy (place 1 (field 0 ∷ []))) (copy (place 7 []))))
+in-arm = seq (assign (place 7 []) (op2 (mul unsigned) (copy (place 2 [])) (int w64 record-size)))
+    (seq (assign (place 8 []) (op2 offset (copy (place 1 (field 0 ∷ []))) (copy (place 7 []))))
     (seq (assign (place 9 []) (rvOpd (copy (place 8 (deref Record′.mir ∷ []))))) (assign (place 6 []) (rvOpd (copy (place 9 []))))))
 
 abbrev past-arm : Body
@@ -60,7 +65,8 @@ module _ (r d : Record) where
   past-list true h = absurd h
   past-list false h = refl
 
-module _ {M : Type 1} (𝓤 : URA M) (H : Heap 𝓤) (A : Atoms 𝓤) (W : Given 𝓤 H A) (𝓣 : Tables 𝓤 H) (h : Handle) (ys : List Record) (len : length ys ≡ h .count) (room : Room Rec (h .count)) (i : ℕ) (d : Record) (good : Good (RecordAt 𝓤 H A W .takes) (i, (d, tt))) where
+module _ {M : Type 1} (𝓤 : URA M) (H : Heap 𝓤) (A : Atoms 𝓤) (W : Given 𝓤 H A) (𝓣 : Tables 𝓤 H) (h : Handle) (ys : List Record)
+    (len : length ys ≡ h .count) (room : Room Rec (h .count)) (i : ℕ) (d : Record) (good : Good (RecordAt 𝓤 H A W .takes) (i, (d, tt))) where
   abbrev elem : Record
   elem = getD ys i none
 
@@ -79,32 +85,38 @@ module _ {M : Type 1} (𝓤 : URA M) (H : Heap 𝓤) (A : Atoms 𝓤) (W : Given
     At cs = frame 𝓤 H A locals bs (empty ∷ (Passed ++ cs)) (Shr Rec h ys ∷ raw (emp 𝓤) ∷ [])
 
     abbrev Q : Post 𝓤 H
-    Q = atRet (env 𝓤 H A locals bs) (Ends 𝓤 H A W Rec (RecordAt 𝓤 H A W) h ys a)
+    Q = atRet (env 𝓤 H A locals bs) (Ends 𝓤 H A W (RecordAt 𝓤 H A W) (h, tt) (ys, tt) a)
 
     abbrev Tested : List Cell
     Tested = full (vint w64 (h .count)) ∷ full (vbool (ltb i (h .count))) ∷ []
 
     -- what follows the `if`
     finishes : (r : Record) → Is Rec r (flow 𝓤 H A W .val r ∷ []) → r ≡ recordAt ys i d
-        → Sq W (At (full (vint w64 (h .count)) ∷ full (vbool (ltb i (h .count))) ∷ full (flow 𝓤 H A W .val r) ∷ [])) (runs (𝓣 .C) (𝓣 .Λ) (env 𝓤 H A locals bs) body.t-4 Q)
+        → Sq W (At (full (vint w64 (h .count)) ∷ full (vbool (ltb i (h .count))) ∷ full (flow 𝓤 H A W .val r) ∷ []))
+        (runs (𝓣 .C) (𝓣 .Λ) (env 𝓤 H A locals bs) body.t-4 Q)
     finishes r is e =
         sets ! (of-opd ! (held ! refl)) refl (flow 𝓤 H A W .typed r is .0) $
-        returns ! (look ! 0 refl) $ leaves ! locals bs (full (flow 𝓤 H A W .val r) ∷ Passed ++ (full (vint w64 (h .count)) ∷ full (vbool (ltb i (h .count))) ∷ full (flow 𝓤 H A W .val r) ∷ []))
-        (ends 𝓤 H A W Rec (RecordAt 𝓤 H A W) ! h ys a r is e)
+        returns ! (look ! 0 refl) $ leaves ! locals bs
+        (full (flow 𝓤 H A W .val r) ∷ Passed ++ (full (vint w64 (h .count)) ∷ full (vbool (ltb i (h .count))) ∷ full (flow 𝓤 H A W .val r) ∷ []))
+        (ends 𝓤 H A W (RecordAt 𝓤 H A W) ! (raw (emp 𝓤) ∷ []) (h, tt) (ys, tt) a r (tt, tt) is (tt, tt) e)
 
     abbrev Then : Post 𝓤 H
-    Then = anyQ (afterSeq 𝓤 H (Wp 𝓤 H (𝓣 .C) (𝓣 .Λ) (env 𝓤 H A locals bs) body.t-4 (atReturn 𝓤 H (env 𝓤 H A locals bs) (Ends 𝓤 H A W Rec (RecordAt 𝓤 H A W) h ys a))) (atReturn 𝓤 H (env 𝓤 H A locals bs) (Ends 𝓤 H A W Rec (RecordAt 𝓤 H A W) h ys a)))
+    Then = anyQ (afterSeq 𝓤 H
+        (Wp 𝓤 H (𝓣 .C) (𝓣 .Λ) (env 𝓤 H A locals bs) body.t-4 (atReturn 𝓤 H (env 𝓤 H A locals bs) (Ends 𝓤 H A W (RecordAt 𝓤 H A W) (h, tt) (ys, tt) a)))
+        (atReturn 𝓤 H (env 𝓤 H A locals bs) (Ends 𝓤 H A W (RecordAt 𝓤 H A W) (h, tt) (ys, tt) a)))
 
     within : T (ltb i (h .count)) → i < length ys → Sq W (At Tested) (runs (𝓣 .C) (𝓣 .Λ) (env 𝓤 H A locals bs) in-arm Then)
     within z l =
-        let fits : WT (vint w64 (i * 56)) = record { fits = offset-fits i (h .count) (ltb→lt i (h .count) z) room } in
+        let fits : WT (vint w64 (i * record-size)) = record { fits = offset-fits i (h .count) (ltb→lt i (h .count) z) room } in
         sets ! (bin ! (held ! refl) (lit ! tt) fits) refl (tt, fits) $
         sets ! (bin ! (held-in ! refl (sub ! 0 refl (whole !))) (held ! refl) tt) refl (tt, tt) $
-        rewrite ! 16 (λ (p : ℕ). ‵ (fat fullShare tyPtr (home locals bs 8) 0 (vptr (h .block) p))) (sym (place-is 56 (h .offset) i)) refl $
+        rewrite ! 16 (λ (p : ℕ). ‵ (fat fullShare tyPtr (home locals bs 8) 0 (vptr (h .block) p))) (sym (place-is record-size (h .offset) i)) refl $
         move ! (20 ∷ []) $ split ! $ fsplit ! $ move ! (1 ∷ []) $ fsplit ! $ move ! (1 ∷ 3 ∷ []) $
-        looks-slice ! tt Rec (Is Rec) (shows 𝓤 H A Rec) vals (flow 𝓤 H A W .tells) (copies 𝓤 H A W) ys (h .block) (h .offset) (λ q. elem-out ! Rec (Is Rec) (shows 𝓤 H A Rec) vals (flow 𝓤 H A W .tells) q ys i none (h .block) (h .offset) l (λ is.
+        looks-slice ! tt Rec (Is Rec) (shows 𝓤 H A Rec) vals (flow 𝓤 H A W .tells) (copies 𝓤 H A W) ys (h .block) (h .offset)
+        (λ q. elem-out ! Rec (Is Rec) (shows 𝓤 H A Rec) vals (flow 𝓤 H A W .tells) q ys i none (h .block) (h .offset) l (λ is.
         -- [list[i]; what it owns; the others; what shuts; the borrow; res; the list's fact; local k at 7 + 2 · k]
-        assigns ! (of-opd ! (load ! (from ! (hop ! (look ! 23 refl) (stop !))) (look-raw ! 0 refl))) (from ! (stop !)) (init ! 25 refl (flow 𝓤 H A W .typed elem is .0)) $
+        assigns ! (of-opd ! (load ! (from ! (hop ! (look ! 23 refl) (stop !))) (look-raw ! 0 refl)))
+        (from ! (stop !)) (init ! 25 refl (flow 𝓤 H A W .typed elem is .0)) $
         assigns-last ! (of-opd ! (load ! (from ! (stop !)) (look ! 25 refl))) (from ! (stop !)) (init ! 19 refl (flow 𝓤 H A W .typed elem is .0)) $
         exec ! (𝓣 .C) (𝓣 .Λ) (env 𝓤 H A locals bs) body.t-4 Q $
         elem-back ! Rec q ys i none (vals elem) (h .block) (h .offset) l $ shuts-slice ! tt Rec q ys (h .block) (h .offset) $
@@ -123,11 +135,13 @@ module _ {M : Type 1} (𝓤 : URA M) (H : Heap 𝓤) (A : Atoms 𝓤) (W : Given
         sets ! (bin ! (held ! refl) (held ! refl) tt) refl (tt, tt) $
         first ! $ branches ! (held ! refl) (λ z. within z (subst (λ (n : ℕ). i < n) (sym len) (ltb→lt i (h .count) z))) past
 
-record-at-meets : {M : Type 1} (𝓤 : URA M) (H : Heap 𝓤) (A : Atoms 𝓤) (W : Given 𝓤 H A) (𝓣 : Tables 𝓤 H) → Triple 𝓤 (WpFn 𝓤 H (𝓣 .C) (𝓣 .Λ) code.function) (shown 𝓤 H A Rec (RecordAt 𝓤 H A W))
-record-at-meets 𝓤 H A W 𝓣 = meets 𝓤 H A W Rec (RecordAt 𝓤 H A W) 𝓣 code.function (λ h ys len room a good.
+record-at-meets : {M : Type 1} (𝓤 : URA M) (H : Heap 𝓤) (A : Atoms 𝓤) (W : Given 𝓤 H A) (𝓣 : Tables 𝓤 H)
+    → Triple 𝓤 (WpFn 𝓤 H (𝓣 .C) (𝓣 .Λ) code.function) (over 𝓤 H A (RecordAt 𝓤 H A W))
+record-at-meets 𝓤 H A W 𝓣 = meets 𝓤 H A W (RecordAt 𝓤 H A W) 𝓣 code.function (λ hs ls fit a good.
     enter ! (𝓣 .C) (𝓣 .Λ) code.function _ _ $ allocates ! locals (λ bs. params1 ! $
-    pass1 ! (init ! 2 refl (tt, (tt, (record { fits = room .0 }, tt)))) $ pass1 ! (init ! 4 refl (word 𝓤 H A W .typed (a .0) (good .0) .0)) $ pass1 ! (init ! 6 refl (flow 𝓤 H A W .typed (a .1 .0) (good .1 .0) .0)) $ pass0 ! $
-    starts 𝓤 H A W 𝓣 h ys len room (a .0) (a .1 .0) good bs))
+    pass1 ! (init ! 2 refl (tt, (tt, (record { fits = fit .0 .1 .0 }, tt)))) $ pass1 ! (init ! 4 refl (word 𝓤 H A W .typed (a .0) (good .0) .0)) $
+    pass1 ! (init ! 6 refl (flow 𝓤 H A W .typed (a .1 .0) (good .1 .0) .0)) $ pass0 ! $
+    starts 𝓤 H A W 𝓣 (hs .0) (ls .0) (fit .0 .0) (fit .0 .1) (a .0) (a .1 .0) good bs))
 
 pub record-at-spec : {M : Type 1} → stated.statement M
 unfolding code.routine tablesOf

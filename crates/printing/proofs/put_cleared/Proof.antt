@@ -4,36 +4,25 @@ use borrow.Author.Needs.{needs}
 use Rattle.rules.specs.Sets.{listOf}
 use Rattle.grammar.specs.Text.{ascii}
 use Rattle.printing.specs.Tails.{closeTail}
-use Rattle.printing.specs.Puts.{puts-same, room-same}
+use Rattle.texts.specs.Puts.{puts-same, room-same}
 use Rattle.printing.proofs.put_cleared.Statement.{statement}
 use Rattle.printing.proofs.put_cleared.Tie as tie
 
-enum-known-a : tie.Need-enum-known-a
-enum-known-a c = search needs
-
-slice-aggregate-put-labelled : tie.Need-slice-aggregate-put-labelled
-slice-aggregate-put-labelled c = search needs
-
 put-labelled-requires : tie.Need-put-labelled-requires
 unfolding closeTail ascii listOf
-put-labelled-requires c κs = let st = c .before .before .before .before .before .before in room-same (st .args .out .now) (st .args .at) _ _ (ap closeTail (c .before .before .before .a .given .1)) (st .pre)
-
-enum-known-a-2 : tie.Need-enum-known-a-2
-enum-known-a-2 c = search needs
+put-labelled-requires c κs =
+    let st = c .before .before .before .before .before .before in
+    room-same (st .args .out .now) (st .args .at) _ _ (ap closeTail (c .before .before .before .a .given .1)) (st .pre)
 
 put-refusal-requires : tie.Need-put-refusal-requires
 unfolding closeTail ascii listOf
-put-refusal-requires c κs = let st = c .before .before .before .before .before in room-same (st .args .out .now) (st .args .at) _ _ (ap closeTail (c .before .before .a2 .given .1)) (st .pre)
-
-same-length : tie.Need-same-length
-same-length c = search needs
+put-refusal-requires c κs =
+    let st = c .before .before .before .before .before in
+    room-same (st .args .out .now) (st .args .at) _ _ (ap closeTail (c .before .before .a2 .given .1)) (st .pre)
 
 returns : tie.Need-returns
 unfolding closeTail ascii listOf
 returns c = puts-same _ _ (ap closeTail (sym (c .before .before .before .before .before .before .a .given .1))) (c .before .before .put-labelled .ensures)
-
-same-length-2 : tie.Need-same-length-2
-same-length-2 c = search needs
 
 returns-2 : tie.Need-returns-2
 unfolding closeTail ascii listOf
@@ -43,12 +32,12 @@ pub put-cleared-spec : {M : Type 1} → statement M
 put-cleared-spec =
     tie.close
     (tie.spec
-    enum-known-a
-    slice-aggregate-put-labelled
+    (λ c. search needs)
+    (λ c. search needs)
     put-labelled-requires
-    enum-known-a-2
+    (λ c. search needs)
     put-refusal-requires
-    same-length
+    (λ c. search needs)
     returns
-    same-length-2
+    (λ c. search needs)
     returns-2)

@@ -7,7 +7,7 @@ use lib.ListN.{length}
 use Rattle.rules.specs.Sets.{listOf}
 use Rattle.grammar.specs.Text.{ascii, field}
 use Rattle.printing.specs.Tails.{closeTail, close-split}
-use Rattle.printing.specs.Puts.{puts-then, puts-same, room-first, room-second, room-same}
+use Rattle.texts.specs.Puts.{puts-then, puts-same, room-first, room-second, room-same}
 use Rattle.printing.proofs.put_close.Statement.{statement}
 use Rattle.printing.proofs.put_close.Tie as tie
 
@@ -22,33 +22,30 @@ back st = closeTail (st .args .a)
 room : (st : tie.Start) → st .args .at + length (front st ++ back st) ≤ length (st .args .out .now)
 room st = room-same (st .args .out .now) (st .args .at) _ _ (close-split (st .args .flow) (st .args .a)) (st .pre)
 
-slice-aggregate-put-labelled : tie.Need-slice-aggregate-put-labelled
-slice-aggregate-put-labelled c = search needs
-
 put-labelled-requires : tie.Need-put-labelled-requires
 unfolding ascii listOf
 put-labelled-requires c κs = let st = c .before .before .before in room-first (st .args .out .now) (st .args .at) (front st) (back st) (room st)
 
 put-cleared-requires : tie.Need-put-cleared-requires
 unfolding ascii listOf
-put-cleared-requires c κs = let st = c .before .before .before .before .before .before .before in room-second (front st) (back st) (c .before .before .before .put-labelled .ensures) (room st)
-
-same-length : tie.Need-same-length
-same-length c = search needs
+put-cleared-requires c κs =
+    let st = c .before .before .before .before .before .before .before in
+    room-second (front st) (back st) (c .before .before .before .put-labelled .ensures) (room st)
 
 returns : tie.Need-returns
 unfolding ascii listOf
 returns c =
-    let st = c .before .before .before .before .before .before .before .before .before .before in
+    let first = c .before .before .before .before .before .before in
+    let st = first .before .before .before .before in
     puts-same _ _ (sym (close-split (st .args .flow) (st .args .a)))
-    (puts-then (front st) (back st) (c .before .before .before .before .before .before .put-labelled .ensures) (c .before .before .put-cleared .ensures) (room st))
+    (puts-then (front st) (back st) (first .put-labelled .ensures) (c .before .before .put-cleared .ensures) (room st))
 
 pub put-close-spec : {M : Type 1} → statement M
 put-close-spec =
     tie.close
     (tie.spec
-    slice-aggregate-put-labelled
+    (λ c. search needs)
     put-labelled-requires
     put-cleared-requires
-    same-length
+    (λ c. search needs)
     returns)

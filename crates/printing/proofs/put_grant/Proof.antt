@@ -6,7 +6,7 @@ use borrow.Author.Needs.{needs}
 use lib.ListN.{length}
 use Rattle.rules.specs.Sets.{listOf}
 use Rattle.grammar.specs.Text.{ascii}
-use Rattle.printing.specs.Puts.{Puts, puts-then, puts-same, room-first, room-second}
+use Rattle.texts.specs.Puts.{Puts, puts-then, puts-same, room-first, room-second}
 use Rattle.printing.specs.Tails.{slotsText, wordsText, grantTail}
 use Rattle.printing.proofs.put_grant.Statement.{statement}
 use Rattle.printing.proofs.put_grant.Tie as tie
@@ -20,16 +20,16 @@ both : (st : tie.Start) → st .args .at + length (slots st) ≤ length (st .arg
 unfolding grantTail
 both st = room-first (st .args .out .now) (st .args .at) (slots st) (wordsText (st .args .g .words .0)) (st .pre)
 
+abbrev start : tie.After-put-slots → tie.Start
+start c = c .before .before .before .before .before .before .before .before
+
 -- they are put
 slots-put : (c : tie.After-put-slots)
-    → Puts (c .before .before .before .before .before .before .before .before .args .out .now) (c .before .before .before .before .before .before .before .before .args .at) (slots (c .before .before .before .before .before .before .before .before)) (c .put-slots .last .0) (c .put-slots .result)
+    → Puts (start c .args .out .now) (start c .args .at) (slots (start c)) (c .put-slots .last .0) (c .put-slots .result)
 unfolding ascii listOf
 slots-put c =
-    let st = c .before .before .before .before .before .before .before .before in
+    let st = start c in
     puts-then (ascii " slots") (slotsText (st .args .g .slots)) (c .before .before .before .before .put .ensures) (c .put-slots .ensures) (both st)
-
-slice-aggregate-put : tie.Need-slice-aggregate-put
-slice-aggregate-put c = search needs
 
 put-requires : tie.Need-put-requires
 unfolding grantTail ascii listOf
@@ -43,20 +43,11 @@ put-slots-requires c κs =
     let st = c .before .before .before .before .before .before .before in
     room-second (ascii " slots") (slotsText (st .args .g .slots)) (c .before .before .before .put .ensures) (both st)
 
-slice-aggregate-put-labelled : tie.Need-slice-aggregate-put-labelled
-slice-aggregate-put-labelled c = search needs
-
-words-of-requires : tie.Need-words-of-requires
-words-of-requires c κs = search needs
-
 put-labelled-requires : tie.Need-put-labelled-requires
 unfolding grantTail ascii listOf
 put-labelled-requires c κs =
     let st = c .before .before .before .before .before .before .before .before .before .before .before .before .before in
     rw (c .words-of .ensures) (room-second (slots st) (wordsText (st .args .g .words .0)) (slots-put (c .before .before .before .before .before)) (st .pre))
-
-same-length : tie.Need-same-length
-same-length c = search needs
 
 returns : tie.Need-returns
 unfolding grantTail ascii listOf
@@ -69,11 +60,11 @@ pub put-grant-spec : {M : Type 1} → statement M
 put-grant-spec =
     tie.close
     (tie.spec
-    slice-aggregate-put
+    (λ c. search needs)
     put-requires
     put-slots-requires
-    slice-aggregate-put-labelled
-    words-of-requires
+    (λ c. search needs)
+    (λ c κs. search needs)
     put-labelled-requires
-    same-length
+    (λ c. search needs)
     returns)

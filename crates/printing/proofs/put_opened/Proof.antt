@@ -2,33 +2,25 @@
 use mathlib.Core.Path.{sym, ap}
 use borrow.Author.Needs.{needs}
 use Rattle.printing.specs.Tails.{openTail}
-use Rattle.printing.specs.Puts.{puts-same, room-same}
+use Rattle.texts.specs.Puts.{puts-same, room-same}
 use Rattle.printing.proofs.put_opened.Statement.{statement}
 use Rattle.printing.proofs.put_opened.Tie as tie
 
-enum-known-a : tie.Need-enum-known-a
-enum-known-a c = search needs
-
 put-grant-requires : tie.Need-put-grant-requires
 unfolding openTail
-put-grant-requires c κs = let st = c .before .before .before .before .before in room-same (st .args .out .now) (st .args .at) _ _ (ap openTail (c .before .before .a .given .1)) (st .pre)
-
-enum-known-a-2 : tie.Need-enum-known-a-2
-enum-known-a-2 c = search needs
+put-grant-requires c κs =
+    let st = c .before .before .before .before .before in
+    room-same (st .args .out .now) (st .args .at) _ _ (ap openTail (c .before .before .a .given .1)) (st .pre)
 
 put-refusal-requires : tie.Need-put-refusal-requires
 unfolding openTail
-put-refusal-requires c κs = let st = c .before .before .before .before .before in room-same (st .args .out .now) (st .args .at) _ _ (ap openTail (c .before .before .a2 .given .1)) (st .pre)
-
-same-length : tie.Need-same-length
-same-length c = search needs
+put-refusal-requires c κs =
+    let st = c .before .before .before .before .before in
+    room-same (st .args .out .now) (st .args .at) _ _ (ap openTail (c .before .before .a2 .given .1)) (st .pre)
 
 returns : tie.Need-returns
 unfolding openTail
 returns c = puts-same _ _ (ap openTail (sym (c .before .before .before .before .before .a .given .1))) (c .before .before .put-grant .ensures)
-
-same-length-2 : tie.Need-same-length-2
-same-length-2 c = search needs
 
 returns-2 : tie.Need-returns-2
 unfolding openTail
@@ -38,11 +30,11 @@ pub put-opened-spec : {M : Type 1} → statement M
 put-opened-spec =
     tie.close
     (tie.spec
-    enum-known-a
+    (λ c. search needs)
     put-grant-requires
-    enum-known-a-2
+    (λ c. search needs)
     put-refusal-requires
-    same-length
+    (λ c. search needs)
     returns
-    same-length-2
+    (λ c. search needs)
     returns-2)

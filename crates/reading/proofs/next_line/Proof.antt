@@ -7,12 +7,6 @@ use Rattle.grammar.specs.Lines.{line-then, line-last}
 use Rattle.reading.proofs.next_line.Statement.{statement}
 use Rattle.reading.proofs.next_line.Tie as tie
 
-line-end-requires : tie.Need-line-end-requires
-line-end-requires c κs = search needs
-
-add-t6 : tie.Need-add-t6
-add-t6 c = search needs
-
 returns : tie.Need-returns
 returns c =
     let a = c .before .before .before .args in
@@ -41,4 +35,4 @@ returns-2 c =
     }
 
 pub next-line-spec : {M : Type 1} → statement M
-next-line-spec = tie.close (tie.spec line-end-requires add-t6 returns returns-2)
+next-line-spec = tie.close (tie.spec (λ c κs. search needs) (λ c. search needs) returns returns-2)

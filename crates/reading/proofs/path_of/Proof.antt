@@ -15,27 +15,6 @@ abbrev μ-loop : tie.MeasureT-loop
 loop-holds : tie.Need-loop-holds Inv-loop μ-loop
 loop-holds c = (omega arith, filled-none _)
 
-add-path : tie.Need-add-path Inv-loop μ-loop
-add-path c = omega arith
-
-mul-path : tie.Need-mul-path Inv-loop μ-loop
-mul-path c = omega arith
-
-array-read-path : tie.Need-array-read-path Inv-loop μ-loop
-array-read-path c = omega arith
-
-mul-path-2 : tie.Need-mul-path-2 Inv-loop μ-loop
-mul-path-2 c = omega arith
-
-array-write-path : tie.Need-array-write-path Inv-loop μ-loop
-array-write-path c = omega arith
-
-add-i : tie.Need-add-i Inv-loop μ-loop
-add-i c = omega arith
-
-loop-less : tie.Need-loop-less Inv-loop μ-loop
-loop-less c = omega arith
-
 loop-again : tie.Need-loop-again Inv-loop μ-loop
 loop-again c = (omega arith, filled-more _ _ _ (c .before .loop .inv .1) (omega arith))
 
@@ -52,12 +31,12 @@ path-of-spec =
     Inv-loop
     μ-loop
     loop-holds
-    add-path
-    mul-path
-    array-read-path
-    mul-path-2
-    array-write-path
-    add-i
-    loop-less
+    (λ c. omega arith)
+    (λ c. omega arith)
+    (λ c. omega arith)
+    (λ c. omega arith)
+    (λ c. omega arith)
+    (λ c. omega arith)
+    (λ c. omega arith)
     loop-again
     returns)

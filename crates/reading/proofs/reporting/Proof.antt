@@ -1,20 +1,17 @@
 -- The verb alone is six bytes long.
 use borrow.Author.Needs.{needs}
-use Rattle.reading.specs.Meaning.{Means, Told}
+use Rattle.grammar.specs.Commands.{reporting}
+use Rattle.reading.specs.Meaning.{parsed, says, says-nothing}
 use Rattle.reading.specs.Verbs.{not-report, reporting-reads}
-use Rattle.reading.specs.Orders.{means-bad}
 use Rattle.reading.proofs.reporting.Statement.{statement}
 use Rattle.reading.proofs.reporting.Tie as tie
 
-bad-requires : tie.Need-bad-requires
-bad-requires c κs = search needs
-
 returns : tie.Need-returns
-returns c = means-bad _ _ (c .bad .ensures) (not-report _ (c .before .before .before .pre) (c .before .if1 .taken))
+returns c = says-nothing (not-report _ (c .before .before .before .pre) (c .before .if1 .taken)) (c .bad .ensures)
 
 returns-2 : tie.Need-returns-2
-unfolding Means Told
-returns-2 c = reporting-reads _ (c .before .before .pre) (c .if1 .left)
+unfolding parsed
+returns-2 c = says reporting (reporting-reads _ (c .before .before .before .pre) (c .before .if1 .left)) (c .bare .ensures)
 
 pub reporting-spec : {M : Type 1} → statement M
-reporting-spec = tie.close (tie.spec bad-requires returns returns-2)
+reporting-spec = tie.close (tie.spec (λ c κs. search needs) returns (λ c κs. search needs) returns-2)

@@ -21,9 +21,6 @@ loop-holds c =
     let g : a .m - 0 ≡ a .m = omega arith in
     (omega arith, rw (e, g))
 
-add-alone : tie.Need-add-alone Inv-loop μ-loop
-add-alone c = omega arith
-
 add-alone-2 : tie.Need-add-alone-2 Inv-loop μ-loop
 add-alone-2 c = omega (arith, c .before .before .before .pre .0 .legal .n64)
 
@@ -33,18 +30,13 @@ rem-alone c = omega (arith, c .before .before .before .before .pre .0 .legal .n1
 alone-requires : tie.Need-alone-requires Inv-loop μ-loop
 alone-requires c κs =
     let a = c .before .before .before .before .args in
-    omega (arith, c .before .before .before .before .pre .0 .legal .n64, mod-lt (a .start .0 + (a .d + c .before .before .before .loop .i)) (c .before .before .before .before .pre .0 .legal .n1))
+    let legal = c .before .before .before .before .pre .0 .legal in
+    omega (arith, legal .n64, mod-lt (a .start .0 + (a .d + c .before .before .before .loop .i)) (legal .n1))
 
 add-y : tie.Need-add-y Inv-loop μ-loop
 add-y c =
     let a = c .before .before .before .before .before .args in
     omega (arith, run-next (a .task) (a .start .0) (a .d) (a .m) (c .before .before .before .before .loop .i) (omega arith))
-
-add-i : tie.Need-add-i Inv-loop μ-loop
-add-i c = omega arith
-
-loop-less : tie.Need-loop-less Inv-loop μ-loop
-loop-less c = omega arith
 
 loop-again : tie.Need-loop-again Inv-loop μ-loop
 loop-again c =
@@ -63,12 +55,12 @@ add-run-spec =
     Inv-loop
     μ-loop
     loop-holds
-    add-alone
+    (λ c. omega arith)
     add-alone-2
     rem-alone
     alone-requires
     add-y
-    add-i
-    loop-less
+    (λ c. omega arith)
+    (λ c. omega arith)
     loop-again
     returns)

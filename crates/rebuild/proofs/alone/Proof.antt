@@ -8,11 +8,8 @@ use borrow.Author.Needs.{needs}
 use Rattle.rebuild.proofs.alone.Statement.{statement}
 use Rattle.rebuild.proofs.alone.Tie as tie
 
-shl-result : tie.Need-shl-result
-shl-result c = search needs
-
 returns : tie.Need-returns
 returns c = shl-exact {a = 1} 1 (c .args .j) 64 (omega arith) (omega arith) ∙ one-mul (2 ^ (c .args .j))
 
 pub alone-spec : {M : Type 1} → statement M
-alone-spec = tie.close (tie.spec shl-result returns)
+alone-spec = tie.close (tie.spec (λ c. search needs) returns)

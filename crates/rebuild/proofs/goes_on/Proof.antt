@@ -20,29 +20,12 @@ returns-2 c = short (c .if2 .taken)
 packet-words-requires : tie.Need-packet-words-requires
 packet-words-requires c κs = (c .before .before .before .pre .0, (c .before .before .before .pre .0 .legal .p1, c .before .before .before .pre .0 .legal .p64))
 
-add-raised : tie.Need-add-raised
-add-raised c = search needs
-
-mul-raised : tie.Need-mul-raised
-mul-raised c = search needs
-
-sub-raised : tie.Need-sub-raised
-sub-raised c = search needs
-
-add-raised-2 : tie.Need-add-raised-2
-add-raised-2 c = search needs
-
-mul-raised-2 : tie.Need-mul-raised-2
-mul-raised-2 c = search needs
-
-shared-slice-read-raised : tie.Need-shared-slice-read-raised
-shared-slice-read-raised c = search needs
-
 raised-requires : tie.Need-raised-requires
 raised-requires c κs =
     let a = c .before .before .before .before .before .args in
     let most : P (a .task) * S (a .task) ≤ 64 * S (a .task) = mul-le-mul-right (S (a .task)) (c .before .before .before .before .before .pre .0 .legal .p64) in
-    omega (arith, c .before .packet-words .ensures, c .before .before .before .before .before .pre .1 .1 (omega arith) (omega arith), c .before .before .before .before .before .pre .0 .legal .s64)
+    let pre = c .before .before .before .before .before .pre in
+    omega (arith, c .before .packet-words .ensures, pre .1 .1 (omega arith) (omega arith), pre .0 .legal .s64)
 
 returns-3 : tie.Need-returns-3
 returns-3 c =
@@ -63,12 +46,12 @@ goes-on-spec =
     returns
     returns-2
     packet-words-requires
-    add-raised
-    mul-raised
-    sub-raised
-    add-raised-2
-    mul-raised-2
-    shared-slice-read-raised
+    (λ c. search needs)
+    (λ c. search needs)
+    (λ c. search needs)
+    (λ c. search needs)
+    (λ c. search needs)
+    (λ c. search needs)
     raised-requires
     returns-3
     returns-4)

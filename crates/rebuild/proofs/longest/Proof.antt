@@ -23,32 +23,12 @@ loop-holds c = (omega arith, λ j a b e. omega arith)
 packet-words-requires : tie.Need-packet-words-requires Inv-loop μ-loop
 packet-words-requires c κs = (c .before .before .before .pre .0, omega arith)
 
-add-raised : tie.Need-add-raised Inv-loop μ-loop
-add-raised c = omega arith
-
-sub-raised : tie.Need-sub-raised Inv-loop μ-loop
-sub-raised c = omega arith
-
-mul-raised : tie.Need-mul-raised Inv-loop μ-loop
-mul-raised c = omega arith
-
-sub-raised-2 : tie.Need-sub-raised-2 Inv-loop μ-loop
-sub-raised-2 c = omega arith
-
-add-raised-2 : tie.Need-add-raised-2 Inv-loop μ-loop
-add-raised-2 c = omega arith
-
-mul-raised-2 : tie.Need-mul-raised-2 Inv-loop μ-loop
-mul-raised-2 c = omega arith
-
-shared-slice-read-raised : tie.Need-shared-slice-read-raised Inv-loop μ-loop
-shared-slice-read-raised c = omega arith
-
 raised-requires : tie.Need-raised-requires Inv-loop μ-loop
 raised-requires c κs =
     let s = S (c .before .before .before .before .before .args .task) in
     let most : c .before .before .before .loop .q * s ≤ 64 * s = mul-le-mul-right s (omega arith) in
-    omega (arith, c .before .before .before .before .before .pre .1 .1 (c .before .before .before .loop .q) (omega arith) (omega arith), c .before .before .before .before .before .pre .0 .legal .s64)
+    let pre = c .before .before .before .before .before .pre in
+    omega (arith, pre .1 .1 (c .before .before .before .loop .q) (omega arith) (omega arith), pre .0 .legal .s64)
 
 returns : tie.Need-returns Inv-loop μ-loop
 returns c =
@@ -56,12 +36,6 @@ returns c =
     let at = c .before .before .before .before .before .loop in
     let e = ap (λ w. raised w (entry (now (a .tails)) (a .p + at .q - 1) (a .k - at .q))) (c .before .before .before .packet-words .ensures) in
     record { high = omega arith; here = λ h. sym e ∙ sym (c .before .raised .ensures) ∙ c .if1 .taken; past = at .inv .1 }
-
-sub-q : tie.Need-sub-q Inv-loop μ-loop
-sub-q c = omega arith
-
-loop-less : tie.Need-loop-less Inv-loop μ-loop
-loop-less c = omega arith
 
 loop-again : tie.Need-loop-again Inv-loop μ-loop
 loop-again c =
@@ -84,16 +58,16 @@ longest-spec =
     μ-loop
     loop-holds
     packet-words-requires
-    add-raised
-    sub-raised
-    mul-raised
-    sub-raised-2
-    add-raised-2
-    mul-raised-2
-    shared-slice-read-raised
+    (λ c. omega arith)
+    (λ c. omega arith)
+    (λ c. omega arith)
+    (λ c. omega arith)
+    (λ c. omega arith)
+    (λ c. omega arith)
+    (λ c. omega arith)
     raised-requires
     returns
-    sub-q
-    loop-less
+    (λ c. omega arith)
+    (λ c. omega arith)
     loop-again
     returns-2)

@@ -9,7 +9,8 @@ use Rattle.rebuild.proofs.rebuild.Statement.{statement}
 use Rattle.rebuild.proofs.rebuild.Tie as tie
 
 abbrev Inv-loop : tie.InvT-loop
-Inv-loop heads tails task start k at₀ at = (at .k ≤ k) × (at .slots + left task (start .0) (at .p) (at .k) ≡ greedySet task (start .0) k) × Due task (start .0) (at .p) (at .k)
+Inv-loop heads tails task start k at₀ at =
+    (at .k ≤ k) × (at .slots + left task (start .0) (at .p) (at .k) ≡ greedySet task (start .0) k) × Due task (start .0) (at .p) (at .k)
 
 abbrev μ-loop : tie.MeasureT-loop
 μ-loop heads tails task start k at₀ at = at .k
@@ -17,16 +18,20 @@ abbrev μ-loop : tie.MeasureT-loop
 loop-holds : tie.Need-loop-holds Inv-loop μ-loop
 loop-holds c =
     let a = c .before .before .args in
-    (omega arith, omega (arith, left-some (a .task) (a .start .0) 0 (a .k) (omega arith)), due-first _ _ _ _ _ _ (c .before .before .pre .1 .1) (c .before .before .pre .0 .two) (omega arith) (omega arith))
+    let (good, (_, solved)) = c .before .before .pre in
+    let first = left-some (a .task) (a .start .0) 0 (a .k) (omega arith) in
+    (omega arith, omega (arith, first), due-first _ _ _ _ _ _ solved (good .two) (omega arith) (omega arith))
 
 packet-step-requires : tie.Need-packet-step-requires Inv-loop μ-loop
 packet-step-requires c κs =
-    let a = c .before .before .before .before .before .args in
-    let at = c .before .before .loop in (
-      c .before .before .before .before .before .pre .0,
+    let st = c .before .before .before .before .before in
+    let a = st .args in
+    let at = c .before .before .loop in
+    let small = greedy-small (a .task) (st .pre .0) (a .start .0) (omega arith) (a .k) in (
+      st .pre .0,
       (
-        (omega arith, omega arith, omega arith, omega arith, omega arith, omega (arith, greedy-small (a .task) (c .before .before .before .before .before .pre .0) (a .start .0) (omega arith) (a .k))),
-        (solved-fewer _ _ _ _ _ _ (at .inv .0) (c .before .before .before .before .before .pre .1 .1), at .inv .2),
+        (omega arith, omega arith, omega arith, omega arith, omega arith, omega (arith, small)),
+        (solved-fewer _ _ _ _ _ _ (at .inv .0) (st .pre .1 .1), at .inv .2),
       ),
     )
 

@@ -5,7 +5,7 @@ use borrow.Author.Tests.{not-true, not-false}
 use Rattle.rules.specs.Sets.{Below}
 use Rattle.rules.specs.Wheels.{Legal, words, largestGap}
 use Rattle.rules.specs.Promises.{Selects}
-use Rattle.select.specs.Verdicts.{Posed, bad-wheel, slot-beyond, no-words, no-time, too-much, too-far, asked, passes}
+use Rattle.select.specs.Verdicts.{Posed, bad-wheel, slot-beyond, no-words, no-time, too-much, too-far, meetable, passes}
 use Rattle.select.proofs.select.Statement.{statement}
 use Rattle.select.proofs.select.Tie as tie
 
@@ -24,21 +24,22 @@ posed c =
       time = c .if4 .left;
     }
 
-enough : (c : tie.Else5) → (let a = c .before .before .before .before .before .before .before .before .before .before .before .args in a .words .0 ≤ words (a .w) (a .free))
+-- the entry, as seen from where the words are enough, and from where the gaps are near too
+abbrev worded : tie.Else5 → tie.Start
+worded c = c .before .before .before .before .before .before .before .before .before .before .before
+
+abbrev neared : tie.Else6 → tie.Start
+neared c = worded (c .before .before)
+
+enough : (c : tie.Else5) → (let a = worded c .args in a .words .0 ≤ words (a .w) (a .free))
 enough c = omega (arith, c .before .before .before .words .ensures .good (posed (c .before .before .before .before) .legal))
 
-near : (c : tie.Else6) → (let a = c .before .before .before .before .before .before .before .before .before .before .before .before .before .args in largestGap (a .w .n) (a .free) ≤ a .limit)
+near : (c : tie.Else6) → (let a = neared c .args in largestGap (a .w .n) (a .free) ≤ a .limit)
 near c = omega (arith, c .before .largest-gap .ensures .good (posed (c .before .before .before .before .before .before) .legal))
-
-legal-requires : tie.Need-legal-requires
-legal-requires c κs = tt
 
 returns : tie.Need-returns
 unfolding Selects
 returns c = bad-wheel _ _ _ _ (c .before .legal .ensures .no (not-true _ (c .if1 .taken)))
-
-below-requires : tie.Need-below-requires
-below-requires c κs = tt
 
 returns-2 : tie.Need-returns-2
 unfolding Selects
@@ -50,19 +51,15 @@ returns-3 c = no-words _ _ _ _ (is-legal (c .before .before .before .before)) (i
 
 returns-4 : tie.Need-returns-4
 unfolding Selects
-returns-4 c = no-time _ _ _ _ (is-legal (c .before .before .before .before .before)) (is-below (c .before .before .before)) (c .before .if3 .left) (c .if4 .taken)
-
-words-requires : tie.Need-words-requires
-words-requires c κs = tt
+returns-4 c =
+    let legal = is-legal (c .before .before .before .before .before) in
+    no-time _ _ _ _ legal (is-below (c .before .before .before)) (c .before .if3 .left) (c .if4 .taken)
 
 returns-5 : tie.Need-returns-5
 unfolding Selects
 returns-5 c =
     let p = posed (c .before .before .before .before) in
     too-much _ _ _ _ p (omega (arith, c .before .before .before .words .ensures .good (p .legal)))
-
-largest-gap-requires : tie.Need-largest-gap-requires
-largest-gap-requires c κs = tt
 
 returns-6 : tie.Need-returns-6
 unfolding Selects
@@ -71,25 +68,27 @@ returns-6 c =
     too-far _ _ _ _ p (enough (c .before .before)) (omega (arith, c .before .largest-gap .ensures .good (p .legal)))
 
 best-requires : tie.Need-best-requires
-best-requires c κs = asked _ _ _ _ (posed (c .before .before .before .before .before .before)) (enough (c .before .before)) (near c)
+best-requires c κs = meetable _ _ _ _ (posed (c .before .before .before .before .before .before)) (enough (c .before .before)) (near c)
 
 returns-7 : tie.Need-returns-7
 unfolding Selects
-returns-7 c = (passes _ _ _ _ (posed (c .before .before .before .before .before .before .before)) (enough (c .before .before .before)) (near (c .before)), c .best .ensures)
+returns-7 c =
+    let p = posed (c .before .before .before .before .before .before .before) in
+    (passes _ _ _ _ p (enough (c .before .before .before)) (near (c .before)), c .best .ensures)
 
 pub select-spec : {M : Type 1} → statement M
 select-spec =
     tie.close
     (tie.spec
-    legal-requires
+    (λ c κs. tt)
     returns
-    below-requires
+    (λ c κs. tt)
     returns-2
     returns-3
     returns-4
-    words-requires
+    (λ c κs. tt)
     returns-5
-    largest-gap-requires
+    (λ c κs. tt)
     returns-6
     best-requires
     returns-7)

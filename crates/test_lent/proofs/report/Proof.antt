@@ -28,11 +28,13 @@ use Rattle.rules.proofs.Reported.Laws as Reported′
 use Rattle.rules.proofs.Wheel.Laws as Wheel′
 use Rattle.rules.proofs.Record.Laws as Record′
 use Rattle.lent.proofs.Rows.{Rec, wheel}
-use Rattle.lent.proofs.Callee.{Good, shown, both-shown}
-use Rattle.lent.proofs.Loans.{Handle, slice-of, Shr, of-shr}
-use Rattle.lent.proofs.Local.{records, shows-local-to}
+use Rattle.lent.proofs.Callee.{Good}
+use Rattle.lent.proofs.Slices.{over}
+use Rattle.lent.proofs.Loans.{Handle, slice-of, Shr}
+use Rattle.lent.proofs.Offers.{passes, calls}
+use Rattle.lent.proofs.Local.{records, shows-array}
 use Rattle.lent.proofs.Frames.{value, slice, lent-local, array-on, Homes, home, Cell, empty, full, env, frame, allocates, leaves, held, keeps, sets}
-use Rattle.lent.proofs.Walked.Shown.{Ends, ends, meets}
+use Rattle.lent.proofs.Walked.Over.{Ends, ends, meets}
 use Rattle.jellyspire.proofs.Core.{reported}
 use Rattle.jellyspire.proofs.Core as library
 use Rattle.test_lent.proofs.Core.{Report}
@@ -46,31 +48,37 @@ use Rattle.test_lent.proofs.report.Code as code
 use Rattle.test_lent.proofs.report.Code.Mir as body
 
 abbrev locals : List Local
-locals = value Reported′.mir ++ (slice (named 0) imm u8 ++ (value (tyArray Record′.mir 16) ++ (value Wheel′.mir ++ (lent-local (tyArray Record′.mir 16) ++ array-on imm Rec 16))))
+locals = value Reported′.mir ++ (slice (named 0) imm u8 ++
+    (value (tyArray Record′.mir 16) ++ (value Wheel′.mir ++ (lent-local (tyArray Record′.mir 16) ++ array-on imm Rec 16))))
 
 module _ {M : Type 1} (𝓤 : URA M) (H : Heap 𝓤) (A : Atoms 𝓤) (W : Given 𝓤 H A) (𝓣 : Tables 𝓤 H)
-    (known-report : Triple 𝓤 (𝓣 .C #jellyspire·report) (both-shown 𝓤 H A u8 Rec (library.Report 𝓤 H A W))) where
-  module _ (h : Handle) (t : List ℕ) (len : length t ≡ h .count) (room : Room u8 (h .count)) (xs : List Record) (w : Wheel) (good : Good (Report 𝓤 H A W .takes) (xs, (w, tt))) (bs : Homes locals) where
+    (known-report : Triple 𝓤 (𝓣 .C #jellyspire·report) (over 𝓤 H A (library.Report 𝓤 H A W))) where
+  module _ (h : Handle) (t : List ℕ) (len : length t ≡ h .count) (room : Room u8 (h .count)) (xs : List Record)
+      (w : Wheel) (good : Good (Report 𝓤 H A W .takes) (xs, (w, tt))) (bs : Homes locals) where
     abbrev Passed : List Cell
     Passed = full (slice-of h) ∷ full (records 𝓤 H A W 16 .val xs) ∷ full (wheel 𝓤 H A W .val w) ∷ []
 
-    starts : Sq W (frame 𝓤 H A locals bs (empty ∷ Passed) (Shr u8 h t ∷ raw (emp 𝓤) ∷ [])) (runs (𝓣 .C) (𝓣 .Λ) (env 𝓤 H A locals bs) body.t-1 (atRet (env 𝓤 H A locals bs) (Ends 𝓤 H A W u8 (Report 𝓤 H A W) h t (xs, (w, tt)))))
+    starts : Sq W (frame 𝓤 H A locals bs (empty ∷ Passed) (Shr u8 h t ∷ raw (emp 𝓤) ∷ []))
+        (runs (𝓣 .C) (𝓣 .Λ) (env 𝓤 H A locals bs) body.t-1 (atRet (env 𝓤 H A locals bs) (Ends 𝓤 H A W (Report 𝓤 H A W) (h, tt) (t, tt) (xs, (w, tt)))))
     starts =
         sets ! (of-opd ! (held ! refl)) refl (records 𝓤 H A W 16 .typed xs (good .0) .0) $
         sets ! (addr ! (from ! (stop !))) refl (tt, tt) $
         sets ! (agg ! (and-then ! (held ! refl) (and-then ! (lit ! tt) (no-more !)))) refl (tt, (tt, (record { fits = lit< tt }, tt))) $
-        shows-local-to ! (fmOf 𝓤 H (W .laws) 𝓣) u8 (library.Report 𝓤 H A W) known-report h t (Shr u8 h t) (of-shr W u8 h t) 16 (home locals bs 4) xs (good .0) (good .0 .1 .0 .1) (lit< tt, lit< tt) (w, tt) (good .1 .0, tt) (id⊢ 𝓤 (emp 𝓤)) 14 8 refl (λ _. tt) (λ _. refl) (λ _. refl)
-        (λ _ _. and-then ! (held ! refl) (and-then ! (held ! refl) (and-then ! (held ! refl) (no-more !)))) (λ r _ is-r said.
+        calls ! (fmOf 𝓤 H (W .laws) 𝓣) (library.Report 𝓤 H A W) known-report
+        (passes W u8 h t 14, (shows-array W 16 (home locals bs 4) xs (good .0) (good .0 .1 .0 .1) (lit< tt, lit< tt) 8, tt))
+        (refl, (refl, tt)) (w, tt) (good .1 .0, tt) (id⊢ 𝓤 (emp 𝓤))
+        (λ _. and-then ! (held ! refl) (and-then ! (held ! refl) (and-then ! (held ! refl) (no-more !)))) (λ r _ is-r said _.
         keeps ! refl (reported 𝓤 H A W .typed r is-r .0) $
-        returns ! (look ! 0 refl) $ leaves ! locals bs (full (reported 𝓤 H A W .val r) ∷ (Passed ++ (full (records 𝓤 H A W 16 .val xs) ∷ full (vptr (home locals bs 4) 0) ∷ full (sliceVal (home locals bs 4, 0) 16) ∷ [])))
-        (ends 𝓤 H A W u8 (Report 𝓤 H A W) ! h t (xs, (w, tt)) r is-r said))
+        returns ! (look ! 0 refl) $ leaves ! locals bs (full (reported 𝓤 H A W .val r) ∷
+        (Passed ++ (full (records 𝓤 H A W 16 .val xs) ∷ full (vptr (home locals bs 4) 0) ∷ full (sliceVal (home locals bs 4, 0) 16) ∷ [])))
+        (ends 𝓤 H A W (Report 𝓤 H A W) ! (raw (emp 𝓤) ∷ []) (h, tt) (t, tt) (xs, (w, tt)) r (tt, tt) is-r (tt, tt) said))
 
-  report-meets : Triple 𝓤 (WpFn 𝓤 H (𝓣 .C) (𝓣 .Λ) code.function) (shown 𝓤 H A u8 (Report 𝓤 H A W))
-  report-meets = meets 𝓤 H A W u8 (Report 𝓤 H A W) 𝓣 code.function (λ h t len room a good.
+  report-meets : Triple 𝓤 (WpFn 𝓤 H (𝓣 .C) (𝓣 .Λ) code.function) (over 𝓤 H A (Report 𝓤 H A W))
+  report-meets = meets 𝓤 H A W (Report 𝓤 H A W) 𝓣 code.function (λ hs ls fit a good.
       enter ! (𝓣 .C) (𝓣 .Λ) code.function _ _ $ allocates ! locals (λ bs. params1 ! $
-      pass1 ! (init ! 2 refl (tt, (tt, (record { fits = room .0 }, tt)))) $ pass1 ! (init ! 4 refl (records 𝓤 H A W 16 .typed (a .0) (good .0) .0)) $
+      pass1 ! (init ! 2 refl (tt, (tt, (record { fits = fit .0 .1 .0 }, tt)))) $ pass1 ! (init ! 4 refl (records 𝓤 H A W 16 .typed (a .0) (good .0) .0)) $
       pass1 ! (init ! 6 refl (wheel 𝓤 H A W .typed (a .1 .0) (good .1 .0) .0)) $ pass0 ! $
-      starts h t len room (a .0) (a .1 .0) good bs))
+      starts (hs .0) (ls .0) (fit .0 .0) (fit .0 .1) (a .0) (a .1 .0) good bs))
 
 pub report-spec : {M : Type 1} → stated.statement M
 unfolding code.routine tablesOf
@@ -79,4 +87,5 @@ report-spec 𝓤 H 𝓜 𝓖 𝓡 =
     entered 𝓤 H (tripleOf 𝓤 H (𝓖 .A) reports.signature (reports.spec 𝓤 H (𝓖 .A) (𝓜 .mem) (𝓡 .run)))
     (tables 𝓤 H 𝓜 𝓡 code.env .C) (tables 𝓤 H 𝓜 𝓡 code.env .Λ) #test-lent·report code.function (code.unfolded 𝓤 H 𝓜 𝓡)
     (report-meets 𝓤 H (𝓖 .A) W (tablesOf 𝓤 H 𝓜 (tables 𝓤 H 𝓜 𝓡 code.env))
-    (cited 𝓤 H (both-shown 𝓤 H (𝓖 .A) u8 Rec (library.Report 𝓤 H (𝓖 .A) W)) 𝓜 𝓡 code.env #jellyspire·report report-def.routine code.calls-jellyspire·report (report-thm.met 𝓤 H 𝓜 𝓖 𝓡)))
+    (cited 𝓤 H (over 𝓤 H (𝓖 .A) (library.Report 𝓤 H (𝓖 .A) W)) 𝓜 𝓡 code.env #jellyspire·report report-def.routine code.calls-jellyspire·report
+    (report-thm.met 𝓤 H 𝓜 𝓖 𝓡)))

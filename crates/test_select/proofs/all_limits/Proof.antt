@@ -10,37 +10,16 @@ Inv-loop words-of gap-of rank-of w free words last sum₀ limit₀ sum limit = l
 abbrev μ-loop : tie.MeasureT-loop
 μ-loop words-of gap-of rank-of w free words last sum₀ limit₀ sum limit = last - limit
 
-loop-holds : tie.Need-loop-holds Inv-loop μ-loop
-loop-holds c = search needs
-
-one-requires : tie.Need-one-requires Inv-loop μ-loop
-one-requires c κs = search needs
-
-add-limit : tie.Need-add-limit Inv-loop μ-loop
-add-limit c = search needs
-
-loop-less : tie.Need-loop-less Inv-loop μ-loop
-loop-less c = search needs
-
-loop-again : tie.Need-loop-again Inv-loop μ-loop
-loop-again c = search needs
-
-one-requires-2 : tie.Need-one-requires-2 Inv-loop μ-loop
-one-requires-2 c κs = search needs
-
-returns : tie.Need-returns Inv-loop μ-loop
-returns c = search needs
-
 pub all-limits-spec : {M : Type 1} → statement M
 all-limits-spec =
     tie.close
     (tie.spec
     Inv-loop
     μ-loop
-    loop-holds
-    one-requires
-    add-limit
-    loop-less
-    loop-again
-    one-requires-2
-    returns)
+    (λ c. search needs)
+    (λ c κs. search needs)
+    (λ c. search needs)
+    (λ c. search needs)
+    (λ c. search needs)
+    (λ c κs. search needs)
+    (λ c. search needs))
