@@ -10,8 +10,8 @@ static uint8_t table[4096], list[4096];
 static volatile uint64_t sink;
 
 typedef struct {
-    jellyspire_wheel wheel;
-    size_t channels, flows;
+    jellyspire_chip chip;
+    jellyspire_buffers lent;
     jellyspire_path last; // the path of the last flow, which is opened and closed
 } set_up;
 
@@ -19,20 +19,20 @@ typedef struct {
 // all cells; fewer flows take more slots each, as far as their paths have them. What they hold is printed.
 static set_up half_full(size_t n, size_t channels, size_t flows)
 {
-    set_up s = {{n, 3, 1, 3}, channels, flows, {{0}, 4}};
+    set_up s = {{n, 3, 1, 3}, {table, 64 * channels, list, 64 * flows}, {{0}, 4}};
     size_t wanted = n / 8 * 3 - (n / 8 + 2) / 3, cells = channels * n / 2;
     memset(table, 0, sizeof table);
     memset(list, 0, sizeof list);
     for (size_t f = 1; f <= flows; f++) {
         for (size_t i = 0; i < 4; i++)
             s.last.channels[i] = (uint16_t)((f * channels / flows + i) % channels);
-        size_t held = jellyspire_report(s.wheel, table, 64 * channels, list, 64 * flows).held;
+        size_t held = jellyspire_report(s.chip, s.lent).held;
         if (f == flows || held >= cells)
             continue;
         size_t words = wanted;
         if (flows < 64) // fewer flows take more slots each
             words = wanted * 64 / flows < 40 * n / 64 ? wanted * 64 / flows : 40 * n / 64;
-        if (jellyspire_open(s.wheel, table, 64 * channels, list, 64 * flows, f, s.last, (uint16_t)words, (uint16_t)(n + 4)).number != 0) {
+        if (jellyspire_open(s.chip, s.lent, f, s.last, words, n + 4).number != 0) {
             printf("the set-up of N %zu, %zu flows was refused at flow %zu\n", n, flows, f);
             exit(1);
         }
@@ -42,10 +42,10 @@ static set_up half_full(size_t n, size_t channels, size_t flows)
 
 static void open_call(const set_up *s)
 {
-    sink += jellyspire_open(s->wheel, table, 64 * s->channels, list, 64 * s->flows, s->flows, s->last, 2, 80).number;
+    sink += jellyspire_open(s->chip, s->lent, s->lent.list_size / 64, s->last, 2, 80).number;
 }
-static void close_call(const set_up *s) { sink += jellyspire_close(s->wheel, table, 64 * s->channels, list, 64 * s->flows, s->flows).number; }
-static void agree_call(const set_up *s) { sink += jellyspire_agree(s->wheel, table, 64 * s->channels, list, 64 * s->flows); }
+static void close_call(const set_up *s) { sink += jellyspire_close(s->chip, s->lent, s->lent.list_size / 64).number; }
+static void agree_call(const set_up *s) { sink += jellyspire_agree(s->chip, s->lent); }
 static void pair_call(const set_up *s)
 {
     open_call(s);
@@ -56,9 +56,9 @@ static void pair_call(const set_up *s)
 static void plain_loop(const set_up *s)
 {
     uint64_t used = 0;
-    for (size_t i = 0; i < 64 * s->channels; i++)
+    for (size_t i = 0; i < s->lent.table_size; i++)
         used += table[i] != 0;
-    for (size_t i = 0; i < 64 * s->flows; i++)
+    for (size_t i = 0; i < s->lent.list_size; i++)
         used += list[i] != 0;
     sink += used;
 }
@@ -81,11 +81,11 @@ static void row(size_t n, size_t channels, size_t flows)
 {
     set_up s = half_full(n, channels, flows);
     open_call(&s);
-    if (jellyspire_close(s.wheel, table, 64 * channels, list, 64 * flows, flows).number != 0) {
+    if (jellyspire_close(s.chip, s.lent, flows).number != 0) {
         printf("N %zu: the flow that is timed was refused\n", n);
         exit(1);
     }
-    size_t held = jellyspire_report(s.wheel, table, 64 * channels, list, 64 * flows).held;
+    size_t held = jellyspire_report(s.chip, s.lent).held;
     double plain = time_of(plain_loop, &s), agree = time_of(agree_call, &s), pair = time_of(pair_call, &s);
     printf("%4zu %8zu %6zu %6zu %12.2f %12.2f %6.1f %12.2f %6.1f\n", n, channels, flows, held, plain * 1e6, agree * 1e6, agree / plain, pair * 1e6,
            pair / plain);

@@ -25,9 +25,9 @@ static const class_of_inputs classes[] = {
 
 static volatile uint64_t sink;
 
-static jellyspire_wheel wheel_of(const class_of_inputs *c, int n)
+static jellyspire_chip wheel_of(const class_of_inputs *c, int n)
 {
-    jellyspire_wheel w = {(size_t)n, (uint16_t)c->s, (uint16_t)c->h, (size_t)(c->p < n ? c->p : n)};
+    jellyspire_chip w = {(size_t)n, (size_t)c->s, (size_t)c->h, (size_t)(c->p < n ? c->p : n)};
     return w;
 }
 
@@ -35,13 +35,13 @@ static jellyspire_wheel wheel_of(const class_of_inputs *c, int n)
 static int scaled(int value, int n) { return (value * n + 63) / 64; }
 
 // the time of one call of ours, in seconds, over the given sets
-static double time_ours(jellyspire_wheel w, const uint64_t *sets, int words, int limit)
+static double time_ours(jellyspire_chip w, const uint64_t *sets, int words, int limit)
 {
     long calls = 0;
     double start = seconds(), spent = 0;
     while (spent < 0.15) {
         for (int i = 0; i < SETS; i++)
-            sink += jellyspire_select(w, sets[i], (uint16_t)words, (uint16_t)limit).slots;
+            sink += jellyspire_select(w, sets[i], (size_t)words, (size_t)limit).slots;
         calls += SETS;
         spent = seconds() - start;
     }
@@ -49,12 +49,12 @@ static double time_ours(jellyspire_wheel w, const uint64_t *sets, int words, int
 }
 
 // the time of one call of the published algorithm; it is slow, so some sets must do
-static double time_published(jellyspire_wheel w, const uint64_t *sets, int words, int limit)
+static double time_published(jellyspire_chip w, const uint64_t *sets, int words, int limit)
 {
     long calls = 0;
     double start = seconds(), spent = 0;
     while (spent < 0.3 && calls < 20000) {
-        sink += published_select((int)w.n, w.s, w.h, (int)w.p, sets[calls % SETS], words, limit).slots;
+        sink += published_select((int)w.n, (int)w.s, (int)w.h, (int)w.p, sets[calls % SETS], words, limit).slots;
         calls++;
         spent = seconds() - start;
     }
@@ -62,11 +62,11 @@ static double time_published(jellyspire_wheel w, const uint64_t *sets, int words
 }
 
 // both must come to the same number of slots and words; the tie rule is ours alone
-static void compare(jellyspire_wheel w, uint64_t free, int words, int limit)
+static void compare(jellyspire_chip w, uint64_t free, int words, int limit)
 {
-    jellyspire_selection a = jellyspire_select(w, free, (uint16_t)words, (uint16_t)limit);
-    published_answer b = published_select((int)w.n, w.s, w.h, (int)w.p, free, words, limit);
-    if ((a.number == 0) != b.granted || (b.granted && (a.count != b.count || a.words != b.words))) {
+    jellyspire_selection a = jellyspire_select(w, free, (size_t)words, (size_t)limit);
+    published_answer b = published_select((int)w.n, (int)w.s, (int)w.h, (int)w.p, free, words, limit);
+    if ((a.number == 0) != b.granted || (b.granted && ((int)a.count != b.count || (int)a.words != b.words))) {
         printf("differ: N %zu free %llu W %d L %d\n", w.n, (unsigned long long)free, words, limit);
         exit(1);
     }
@@ -77,7 +77,7 @@ static void table(int n)
     printf("\nN %d\n%-36s %12s %14s %8s %s\n", n, "inputs", "ours, us", "published, us", "ratio", n == 64 ? "asked" : "");
     for (size_t c = 0; c < sizeof classes / sizeof *classes; c++) {
         uint64_t sets[SETS], state = 88172645463325252u + c;
-        jellyspire_wheel w = wheel_of(&classes[c], n);
+        jellyspire_chip w = wheel_of(&classes[c], n);
         int words = scaled(classes[c].words, n), limit = classes[c].limit < n ? classes[c].limit : n;
         for (int i = 0; i < SETS; i++)
             sets[i] = random_set(&state, n, classes[c].percent);
@@ -101,17 +101,17 @@ static void random_inputs(void)
     int granted = 0;
     for (int i = 0; i < 100000; i++) {
         int s = 2 + (int)(next_random(&state) % 63), h = (int)(next_random(&state) % (uint64_t)s);
-        jellyspire_wheel w = {64, (uint16_t)s, (uint16_t)h, 1 + (size_t)(next_random(&state) % 64)};
+        jellyspire_chip w = {64, (size_t)s, (size_t)h, 1 + (size_t)(next_random(&state) % 64)};
         uint64_t free = random_set(&state, 64, 5 + (int)(next_random(&state) % 96));
         int most = published_words(64, s, h, (int)w.p, free), gap = published_gap(64, free);
         int words = 1 + (int)(next_random(&state) % (uint64_t)(most + 1)), limit = gap + (int)(next_random(&state) % 20);
-        uint16_t most_gap = (uint16_t)(limit ? limit : 1);
+        size_t most_gap = (size_t)(limit ? limit : 1);
         double start = seconds();
-        jellyspire_selection a = jellyspire_select(w, free, (uint16_t)words, most_gap);
+        jellyspire_selection a = jellyspire_select(w, free, (size_t)words, most_gap);
         double spent = seconds() - start;
         for (int again = 0; worst < spent && again < AGAIN; again++) {
             start = seconds();
-            sink += jellyspire_select(w, free, (uint16_t)words, most_gap).slots;
+            sink += jellyspire_select(w, free, (size_t)words, most_gap).slots;
             double once_more = seconds() - start;
             if (once_more < spent)
                 spent = once_more;

@@ -12,24 +12,24 @@
 static ucontext_t back, on_paint;
 static volatile uint64_t sink;
 
+// A table of 64 channels on a wheel of 64 slots with a list of 64 flows, in which the calls find something to do.
+static uint8_t table[4096], list[4096];
+static const jellyspire_chip wide = {64, 3, 1, 3};
+static const jellyspire_buffers lent = {table, sizeof table, list, sizeof list};
+static const jellyspire_path long_path = {{0, 1, 2, 3, 4, 5, 6, 7, 8, 9, 10, 11, 12, 13, 14, 15}, 16};
+
 static void nothing(void) {}
 
 static void select_call(void)
 {
-    jellyspire_wheel w = {64, 3, 1, 3};
-    sink = jellyspire_select(w, 0xfffffffffffffdffu, 60, 64).slots;
+    sink = jellyspire_select(wide, 0xfffffffffffffdffu, 60, 64).slots;
 }
 
-// A table of 64 channels on a wheel of 64 slots with a list of 64 flows, in which the calls find something to do.
-static uint8_t table[4096], list[4096];
-static const jellyspire_wheel wide = {64, 3, 1, 3};
-static const jellyspire_path long_path = {{0, 1, 2, 3, 4, 5, 6, 7, 8, 9, 10, 11, 12, 13, 14, 15}, 16};
-
-static void open_call(void) { sink = jellyspire_open(wide, table, sizeof table, list, sizeof list, 64, long_path, 60, 80).slots; }
-static void agree_call(void) { sink = jellyspire_agree(wide, table, sizeof table, list, sizeof list); }
-static void report_call(void) { sink = jellyspire_report(wide, table, sizeof table, list, sizeof list).held; }
-static void row_call(void) { sink = jellyspire_row(wide, table, sizeof table, 63).length; }
-static void close_call(void) { sink = jellyspire_close(wide, table, sizeof table, list, sizeof list, 64).cells; }
+static void open_call(void) { sink = jellyspire_open(wide, lent, 64, long_path, 60, 80).slots; }
+static void agree_call(void) { sink = jellyspire_agree(wide, lent); }
+static void report_call(void) { sink = jellyspire_report(wide, lent).held; }
+static void row_call(void) { sink = jellyspire_row(wide, lent, 63).length; }
+static void close_call(void) { sink = jellyspire_close(wide, lent, 64).cells; }
 
 static size_t used(void (*call)(void))
 {

@@ -1,17 +1,23 @@
-// Jellyspire for C: the slot table of a chip with an Aethereal-style network inside.
+// Jellyspire for C and C++: the slot table of a chip with an Aethereal-style network inside.
 //
-// The caller owns two buffers and lends them to each call:
+// A caller says what its chip is (jellyspire_chip) and lends two buffers (jellyspire_buffers) to each call:
 //   the table, 64 bytes for each of 1 to 64 channels, channel c from byte 64 * c on. A cell is 0 if it is free, or the
 //     number of the flow that holds it. Cells from n on are 0.
 //   the list, 64 bytes for each of 1 to 64 flows, flow f from byte 64 * (f - 1) on, as below. All zeros: every flow closed.
 // A new table and a new list are zeros. Both are kept by the calls below; other writers are at their own risk, and what
 // they break the next call refuses with 4.
 //
-// A pointer is never null, also where its size is 0; table and list do not overlap. No call allocates, keeps a pointer or
-// calls back; each needs less than 64 KiB of stack.
+// Set a struct to zeros and fill in what you know, as `jellyspire_chip chip = {0}; chip.n = 8;` or `{.n = 8, ..}` does. Later
+// versions add fields; what you leave at 0 is refused with a number of its own where it is needed, and never guessed: a chip
+// of zeros with 1, no table with 2, no list with 3.
+//
+// Table and list do not overlap, and each has as many bytes as its size says. A null pointer is a buffer of size 0. No call
+// allocates, keeps a pointer or calls back; each needs less than 64 KiB of stack.
 //
 // A number of 0 is a yes. Otherwise it is the refusal: the first that holds in the order that stands with the call. A
 // refusal changes no byte of table or list, and every other value of the answer is 0.
+//
+// Link libjellyspire.a, which tools/archive makes (docs/ARCHIVE.md).
 #ifndef JELLYSPIRE_H
 #define JELLYSPIRE_H
 
@@ -37,10 +43,10 @@ enum {
     JELLYSPIRE_PATH_CHANNELS = 16
 };
 
-// The numbers of a refusal.
-enum {
+// What a call answers first: yes, or why not.
+typedef enum {
     JELLYSPIRE_YES = 0,
-    JELLYSPIRE_BAD_WHEEL = 1,      // a value of the wheel lies outside its range
+    JELLYSPIRE_BAD_WHEEL = 1,      // n, s, h or p of the chip lies outside its range
     JELLYSPIRE_BAD_TABLE = 2,      // the table is not 64 bytes for each of 1 to 64 channels
     JELLYSPIRE_BAD_LIST = 3,       // the list is not 64 bytes for each of 1 to 64 flows
     JELLYSPIRE_DISAGREE = 4,       // table and list do not agree, or a record is none
@@ -55,16 +61,24 @@ enum {
     JELLYSPIRE_TOO_MUCH = 13,      // no set of free slots delivers so many words
     JELLYSPIRE_TOO_FAR = 14,       // some set does, but none of those keeps its gaps small enough
     JELLYSPIRE_SLOT_BEYOND = 15    // a free slot is named at n or beyond
-};
+} jellyspire_number;
 
-// A wheel of n slots (1 to 64) with s words in a slot (2 to 64), h header words (0 to s - 1) and a header every p slots
-// of a run (1 to 64).
+// What the chip is: a wheel of n slots (1 to 64) with s words in a slot (2 to 64), h header words (0 to s - 1) and a header
+// every p slots of a run (1 to 64).
 typedef struct {
     size_t n;
-    uint16_t s;
-    uint16_t h;
+    size_t s;
+    size_t h;
     size_t p;
-} jellyspire_wheel;
+} jellyspire_chip;
+
+// The buffers that are lent, each with its size in bytes. jellyspire_report, jellyspire_agree and jellyspire_row only read.
+typedef struct {
+    uint8_t *table;
+    size_t table_size;
+    uint8_t *list;
+    size_t list_size;
+} jellyspire_buffers;
 
 // A path: the first `length` of sixteen channel numbers; the others are ignored.
 typedef struct {
@@ -75,23 +89,23 @@ typedef struct {
 // What opening and bare selection answer: on a yes slots has a bit for each chosen slot, counted at the first channel,
 // count says how many they are and words how many words they deliver in a revolution.
 typedef struct {
+    jellyspire_number number;
     uint64_t slots;
-    uint32_t number;
-    uint16_t count;
-    uint16_t words;
+    size_t count;
+    size_t words;
 } jellyspire_selection;
 
 // What closing answers: how many cells were cleared.
 typedef struct {
+    jellyspire_number number;
     size_t cells;
-    uint32_t number;
 } jellyspire_clearing;
 
 // What the report answers: the cells that are free and those that open flows hold, together channels times n.
 typedef struct {
+    jellyspire_number number;
     size_t free;
     size_t held;
-    uint32_t number;
 } jellyspire_cells;
 
 // A part of the table: its first byte and its size.
@@ -100,49 +114,126 @@ typedef struct {
     size_t length;
 } jellyspire_part;
 
+// ---- the boundary: not for callers
+// Numbers and pointers only, so that it is the same on every 64-bit processor. The result is the number of the answer, and
+// the values of a yes are written to `values`. Here no pointer may be null, also where its size is 0.
+uint64_t jellyspire_raw_open(uint8_t *table, size_t table_size, uint8_t *list, size_t list_size, size_t n, size_t s, size_t h,
+                             size_t p, size_t flow, const uint16_t *path, size_t len, size_t words, size_t deadline,
+                             uint64_t *values);
+uint64_t jellyspire_raw_close(uint8_t *table, size_t table_size, uint8_t *list, size_t list_size, size_t n, size_t s,
+                              size_t h, size_t p, size_t flow, uint64_t *values);
+uint64_t jellyspire_raw_report(const uint8_t *table, size_t table_size, const uint8_t *list, size_t list_size, size_t n,
+                               size_t s, size_t h, size_t p, uint64_t *values);
+uint64_t jellyspire_raw_agree(const uint8_t *table, size_t table_size, const uint8_t *list, size_t list_size, size_t n,
+                              size_t s, size_t h, size_t p);
+uint64_t jellyspire_raw_row(const uint8_t *table, size_t table_size, size_t n, size_t s, size_t h, size_t p, size_t channel,
+                            uint64_t *values);
+uint64_t jellyspire_raw_select(size_t n, size_t s, size_t h, size_t p, uint64_t free, size_t words, size_t limit,
+                               uint64_t *values);
+
 // The library was built for a size_t of 64 bits.
-#if defined(__cplusplus) && __cplusplus >= 201103L
-#define JELLYSPIRE_ASSERT(name, fact) static_assert(fact, #name)
-#else
-#define JELLYSPIRE_ASSERT(name, fact) typedef char jellyspire_assert_##name[(fact) ? 1 : -1]
-#endif
-JELLYSPIRE_ASSERT(size_is_8, sizeof(size_t) == 8);
-JELLYSPIRE_ASSERT(wheel_is_24, sizeof(jellyspire_wheel) == 24);
-JELLYSPIRE_ASSERT(path_is_40, sizeof(jellyspire_path) == 40);
-JELLYSPIRE_ASSERT(selection_is_16, sizeof(jellyspire_selection) == 16);
-JELLYSPIRE_ASSERT(clearing_is_16, sizeof(jellyspire_clearing) == 16);
-JELLYSPIRE_ASSERT(cells_is_24, sizeof(jellyspire_cells) == 24);
-JELLYSPIRE_ASSERT(part_is_16, sizeof(jellyspire_part) == 16);
-#undef JELLYSPIRE_ASSERT
+typedef char jellyspire_size_is_64_bits[sizeof(size_t) == 8 ? 1 : -1];
+
+// The buffers with a byte of `none` in place of each null pointer, and size 0.
+static inline jellyspire_buffers jellyspire_lent(jellyspire_buffers lent, uint8_t *none)
+{
+    if (lent.table == NULL) {
+        lent.table = none;
+        lent.table_size = 0;
+    }
+    if (lent.list == NULL) {
+        lent.list = none;
+        lent.list_size = 0;
+    }
+    return lent;
+}
+// ---- the calls
 
 // Opens `flow` on a path with a demand of `words` words in a revolution, each there within `deadline` slots: chooses the
 // best of the path's free slots (fewest slots, then most words, then the tie rule), writes the flow's number into its
-// cells, slot s into cell (s + i) mod n of the path's channel i, and the flow's record. Nothing else is changed.
+// cells, slot s into cell (s + i) mod n of the path's channel i, and the flow's record. Nothing else is changed. A deadline
+// above 65,535 is kept in the record as 65,535, which restricts no more.
 // Refusals, the first that holds: 1, 2, 3, 4, 5, 6, 7, 8, 9, 11, 12, 13, 14.
-jellyspire_selection jellyspire_open(jellyspire_wheel wheel, uint8_t *table, size_t table_size, uint8_t *list,
-                                     size_t list_size, size_t flow, jellyspire_path path, uint16_t words,
-                                     uint16_t deadline);
+static inline jellyspire_selection jellyspire_open(jellyspire_chip chip, jellyspire_buffers lent, size_t flow,
+                                                   jellyspire_path path, size_t words, size_t deadline)
+{
+    uint8_t none = 0;
+    uint64_t values[3] = {0, 0, 0};
+    jellyspire_selection answer;
+    lent = jellyspire_lent(lent, &none);
+    answer.number = (jellyspire_number)jellyspire_raw_open(lent.table, lent.table_size, lent.list, lent.list_size, chip.n,
+                                                           chip.s, chip.h, chip.p, flow, path.channels, path.length, words,
+                                                           deadline, values);
+    answer.slots = values[0];
+    answer.count = (size_t)values[1];
+    answer.words = (size_t)values[2];
+    return answer;
+}
 
 // Closes `flow`: sets its cells and its record to 0. Nothing else is changed.
 // Refusals, the first that holds: 1, 2, 3, 4, 8, 10.
-jellyspire_clearing jellyspire_close(jellyspire_wheel wheel, uint8_t *table, size_t table_size, uint8_t *list,
-                                     size_t list_size, size_t flow);
+static inline jellyspire_clearing jellyspire_close(jellyspire_chip chip, jellyspire_buffers lent, size_t flow)
+{
+    uint8_t none = 0;
+    uint64_t values[1] = {0};
+    jellyspire_clearing answer;
+    lent = jellyspire_lent(lent, &none);
+    answer.number = (jellyspire_number)jellyspire_raw_close(lent.table, lent.table_size, lent.list, lent.list_size, chip.n,
+                                                            chip.s, chip.h, chip.p, flow, values);
+    answer.cells = (size_t)values[0];
+    return answer;
+}
 
 // Counts free and held cells. Changes nothing. Refusals, the first that holds: 1, 2, 3, 4.
-jellyspire_cells jellyspire_report(jellyspire_wheel wheel, const uint8_t *table, size_t table_size, const uint8_t *list,
-                                   size_t list_size);
+static inline jellyspire_cells jellyspire_report(jellyspire_chip chip, jellyspire_buffers lent)
+{
+    uint8_t none = 0;
+    uint64_t values[2] = {0, 0};
+    jellyspire_cells answer;
+    lent = jellyspire_lent(lent, &none);
+    answer.number = (jellyspire_number)jellyspire_raw_report(lent.table, lent.table_size, lent.list, lent.list_size, chip.n,
+                                                             chip.s, chip.h, chip.p, values);
+    answer.free = (size_t)values[0];
+    answer.held = (size_t)values[1];
+    return answer;
+}
 
 // Whether table and list agree: 0, or the first that holds of 1, 2, 3, 4. Changes nothing.
-uint32_t jellyspire_agree(jellyspire_wheel wheel, const uint8_t *table, size_t table_size, const uint8_t *list,
-                          size_t list_size);
+static inline jellyspire_number jellyspire_agree(jellyspire_chip chip, jellyspire_buffers lent)
+{
+    uint8_t none = 0;
+    lent = jellyspire_lent(lent, &none);
+    return (jellyspire_number)jellyspire_raw_agree(lent.table, lent.table_size, lent.list, lent.list_size, chip.n, chip.s,
+                                                   chip.h, chip.p);
+}
 
-// Where the n cells of a channel stand in the table; 0 and 0 if wheel, table size or channel is bad.
-jellyspire_part jellyspire_row(jellyspire_wheel wheel, const uint8_t *table, size_t table_size, size_t channel);
+// Where the n cells of a channel stand in the table; 0 and 0 if the chip's wheel, the table's size or the channel is bad.
+// The list is not looked at. Changes nothing.
+static inline jellyspire_part jellyspire_row(jellyspire_chip chip, jellyspire_buffers lent, size_t channel)
+{
+    uint8_t none = 0;
+    uint64_t values[2] = {0, 0};
+    jellyspire_part part;
+    lent = jellyspire_lent(lent, &none);
+    (void)jellyspire_raw_row(lent.table, lent.table_size, chip.n, chip.s, chip.h, chip.p, channel, values);
+    part.offset = (size_t)values[0];
+    part.length = (size_t)values[1];
+    return part;
+}
 
 // Bare selection, with no table: the best set of the slots named in `free` (bit s is slot s) that delivers at least
 // `words` words in a revolution with no gap above `limit` slots.
 // Refusals, the first that holds: 1, 15, 11, 12, 13, 14.
-jellyspire_selection jellyspire_select(jellyspire_wheel wheel, uint64_t free, uint16_t words, uint16_t limit);
+static inline jellyspire_selection jellyspire_select(jellyspire_chip chip, uint64_t free, size_t words, size_t limit)
+{
+    uint64_t values[3] = {0, 0, 0};
+    jellyspire_selection answer;
+    answer.number = (jellyspire_number)jellyspire_raw_select(chip.n, chip.s, chip.h, chip.p, free, words, limit, values);
+    answer.slots = values[0];
+    answer.count = (size_t)values[1];
+    answer.words = (size_t)values[2];
+    return answer;
+}
 
 #ifdef __cplusplus
 }

@@ -5,7 +5,7 @@
 
 static int has(uint64_t set, size_t slot) { return (int)(set >> slot & 1); }
 
-static int legal(jellyspire_wheel w)
+static int legal(jellyspire_chip w)
 {
     return w.n >= 1 && w.n <= 64 && w.s >= 2 && w.s <= 64 && w.h < w.s && w.p >= 1 && w.p <= 64;
 }
@@ -18,13 +18,13 @@ int reference_count(uint64_t set)
     return count;
 }
 
-static int run_words(jellyspire_wheel w, int q)
+static int run_words(jellyspire_chip w, int q)
 {
-    return q * w.s - (q + (int)w.p - 1) / (int)w.p * w.h;
+    return q * (int)w.s - (q + (int)w.p - 1) / (int)w.p * (int)w.h;
 }
 
 // Rule 2: from each start the length of its run.
-int reference_words(jellyspire_wheel w, uint64_t set)
+int reference_words(jellyspire_chip w, uint64_t set)
 {
     int total = 0, n = (int)w.n;
     if (reference_count(set) == n)
@@ -41,7 +41,7 @@ int reference_words(jellyspire_wheel w, uint64_t set)
 }
 
 // Rule 3: the largest gap, 0 for the empty set.
-int reference_gap(jellyspire_wheel w, uint64_t set)
+int reference_gap(jellyspire_chip w, uint64_t set)
 {
     int most = 0, n = (int)w.n;
     for (int s = 0; s < n; s++) {
@@ -57,7 +57,7 @@ int reference_gap(jellyspire_wheel w, uint64_t set)
 }
 
 // Rule 6's tie rule: a goes before b.
-static int before(jellyspire_wheel w, uint64_t a, uint64_t b)
+static int before(jellyspire_chip w, uint64_t a, uint64_t b)
 {
     int n = (int)w.n, first[2] = {-1, -1};
     uint64_t set[2] = {a, b};
@@ -75,7 +75,7 @@ static int before(jellyspire_wheel w, uint64_t a, uint64_t b)
     return 0;
 }
 
-reference_answer reference_select(jellyspire_wheel w, uint64_t free, unsigned words, unsigned limit)
+reference_answer reference_select(jellyspire_chip w, uint64_t free, size_t words, size_t limit)
 {
     reference_answer a = {0, 0, 0, 0, 0};
     if (!legal(w)) {
@@ -92,11 +92,11 @@ reference_answer reference_select(jellyspire_wheel w, uint64_t free, unsigned wo
         a.exact = 1;
         for (uint64_t set = free;; set = (set - 1) & free) {
             int delivered = reference_words(w, set), count = reference_count(set);
-            if (delivered >= (int)words) {
+            if ((size_t)delivered >= words) {
                 if (!some)
                     a.number = 14;
                 some = 1;
-                if (reference_gap(w, set) <= (int)limit
+                if ((size_t)reference_gap(w, set) <= limit
                     && (a.number != 0 || count < a.count || (count == a.count && delivered > a.words)
                         || (count == a.count && delivered == a.words && before(w, set, a.slots)))) {
                     a.number = 0;
@@ -108,10 +108,10 @@ reference_answer reference_select(jellyspire_wheel w, uint64_t free, unsigned wo
             if (set == 0)
                 break;
         }
-    } else if (reference_words(w, free) < (int)words) {
+    } else if ((size_t)reference_words(w, free) < words) {
         a.number = 13;
     } else {
-        published_answer p = published_select((int)w.n, w.s, w.h, (int)w.p, free, (int)words, (int)limit);
+        published_answer p = published_select((int)w.n, (int)w.s, (int)w.h, (int)w.p, free, (int)words, (int)(limit < w.n ? limit : w.n));
         a.number = p.granted ? 0 : 14;
         a.count = p.granted ? p.count : 0;
         a.words = p.granted ? p.words : 0;
@@ -148,7 +148,7 @@ static int read_record(const uint8_t *b, flow_record *r)
 }
 
 // Whether a record obeys its own rules, on a chip of so many channels.
-static int lawful(jellyspire_wheel w, size_t channels, const flow_record *r)
+static int lawful(jellyspire_chip w, size_t channels, const flow_record *r)
 {
     for (unsigned i = r->length; i < 16; i++)
         if (r->path[i] != 0)
@@ -169,36 +169,36 @@ static int lawful(jellyspire_wheel w, size_t channels, const flow_record *r)
     return reference_words(w, r->slots) >= (int)r->words && reference_gap(w, r->slots) <= (int)(r->deadline - r->length);
 }
 
-uint32_t reference_agree(jellyspire_wheel w, const uint8_t *table, size_t table_size, const uint8_t *list, size_t list_size)
+jellyspire_number reference_agree(jellyspire_chip w, const uint8_t *table, size_t table_size, const uint8_t *list, size_t list_size)
 {
     static uint8_t map[4096];
     if (!legal(w))
-        return 1;
+        return JELLYSPIRE_BAD_WHEEL;
     if (table_size % 64 != 0 || table_size < 64 || table_size > 4096)
-        return 2;
+        return JELLYSPIRE_BAD_TABLE;
     if (list_size % 64 != 0 || list_size < 64 || list_size > 4096)
-        return 3;
+        return JELLYSPIRE_BAD_LIST;
     memset(map, 0, sizeof map);
     for (size_t f = 0; f < list_size / 64; f++) {
         flow_record r;
         if (!read_record(list + 64 * f, &r) || !lawful(w, table_size / 64, &r))
-            return 4;
+            return JELLYSPIRE_DISAGREE;
         for (unsigned i = 0; i < r.length; i++)
             for (size_t s = 0; s < w.n; s++) {
                 uint8_t *cell = map + 64 * r.path[i] + (s + i) % w.n;
                 if (!has(r.slots, s))
                     continue;
                 if (*cell != 0)
-                    return 4;
+                    return JELLYSPIRE_DISAGREE;
                 *cell = (uint8_t)(f + 1);
             }
     }
-    return memcmp(map, table, table_size) == 0 ? 0 : 4;
+    return memcmp(map, table, table_size) == 0 ? JELLYSPIRE_YES : JELLYSPIRE_DISAGREE;
 }
 
-jellyspire_cells reference_report(jellyspire_wheel w, const uint8_t *table, size_t table_size, const uint8_t *list, size_t list_size)
+jellyspire_cells reference_report(jellyspire_chip w, const uint8_t *table, size_t table_size, const uint8_t *list, size_t list_size)
 {
-    jellyspire_cells a = {0, 0, reference_agree(w, table, table_size, list, list_size)};
+    jellyspire_cells a = {reference_agree(w, table, table_size, list, list_size), 0, 0};
     if (a.number != 0)
         return a;
     for (size_t c = 0; c < table_size / 64; c++)
@@ -212,7 +212,7 @@ jellyspire_cells reference_report(jellyspire_wheel w, const uint8_t *table, size
     return a;
 }
 
-jellyspire_part reference_row(jellyspire_wheel w, size_t table_size, size_t channel)
+jellyspire_part reference_row(jellyspire_chip w, size_t table_size, size_t channel)
 {
     jellyspire_part a = {0, 0};
     if (legal(w) && table_size % 64 == 0 && table_size >= 64 && table_size <= 4096 && channel < table_size / 64) {
@@ -222,17 +222,17 @@ jellyspire_part reference_row(jellyspire_wheel w, size_t table_size, size_t chan
     return a;
 }
 
-jellyspire_clearing reference_close(jellyspire_wheel w, uint8_t *table, size_t table_size, uint8_t *list, size_t list_size, size_t flow)
+jellyspire_clearing reference_close(jellyspire_chip w, uint8_t *table, size_t table_size, uint8_t *list, size_t list_size, size_t flow)
 {
-    jellyspire_clearing a = {0, reference_agree(w, table, table_size, list, list_size)};
+    jellyspire_clearing a = {reference_agree(w, table, table_size, list, list_size), 0};
     if (a.number != 0)
         return a;
     if (flow == 0 || flow > list_size / 64) {
-        a.number = 8;
+        a.number = JELLYSPIRE_NO_FLOW;
         return a;
     }
     if (list[64 * (flow - 1)] == 0) {
-        a.number = 10;
+        a.number = JELLYSPIRE_NOT_OPEN;
         return a;
     }
     for (size_t i = 0; i < table_size; i++)
@@ -244,8 +244,8 @@ jellyspire_clearing reference_close(jellyspire_wheel w, uint8_t *table, size_t t
     return a;
 }
 
-reference_answer reference_open(jellyspire_wheel w, const uint8_t *table, size_t table_size, const uint8_t *list, size_t list_size,
-                                size_t flow, jellyspire_path path, unsigned words, unsigned deadline, uint64_t *free)
+reference_answer reference_open(jellyspire_chip w, const uint8_t *table, size_t table_size, const uint8_t *list, size_t list_size,
+                                size_t flow, jellyspire_path path, size_t words, size_t deadline, uint64_t *free)
 {
     reference_answer a = {reference_agree(w, table, table_size, list, list_size), 0, 0, 0, 0};
     *free = 0;
@@ -279,13 +279,15 @@ reference_answer reference_open(jellyspire_wheel w, const uint8_t *table, size_t
         if (!taken)
             *free |= (uint64_t)1 << s;
     }
-    return reference_select(w, *free, words, deadline - (unsigned)path.length);
+    return reference_select(w, *free, words, deadline - path.length);
 }
 
-void reference_opened(jellyspire_wheel w, uint8_t *table, uint8_t *list, size_t flow, jellyspire_path path, unsigned words,
-                      unsigned deadline, uint64_t slots)
+void reference_opened(jellyspire_chip w, uint8_t *table, uint8_t *list, size_t flow, jellyspire_path path, size_t words,
+                      size_t deadline, uint64_t slots)
 {
     uint8_t *b = list + 64 * (flow - 1);
+    if (deadline > 65535) // a record has 16 bits for it, and it restricts nothing
+        deadline = 65535;
     memset(b, 0, 64);
     b[0] = 1;
     b[2] = (uint8_t)words;

@@ -13,22 +13,22 @@ typedef struct {
     int words;
 } reference_answer;
 
-int reference_words(jellyspire_wheel w, uint64_t set);
-int reference_gap(jellyspire_wheel w, uint64_t set);
+int reference_words(jellyspire_chip w, uint64_t set);
+int reference_gap(jellyspire_chip w, uint64_t set);
 int reference_count(uint64_t set);
 
-reference_answer reference_select(jellyspire_wheel w, uint64_t free, unsigned words, unsigned limit);
+reference_answer reference_select(jellyspire_chip w, uint64_t free, size_t words, size_t limit);
 
 // 0, or the first of 1, 2, 3, 4 that holds.
-uint32_t reference_agree(jellyspire_wheel w, const uint8_t *table, size_t table_size, const uint8_t *list, size_t list_size);
-jellyspire_cells reference_report(jellyspire_wheel w, const uint8_t *table, size_t table_size, const uint8_t *list, size_t list_size);
-jellyspire_part reference_row(jellyspire_wheel w, size_t table_size, size_t channel);
+jellyspire_number reference_agree(jellyspire_chip w, const uint8_t *table, size_t table_size, const uint8_t *list, size_t list_size);
+jellyspire_cells reference_report(jellyspire_chip w, const uint8_t *table, size_t table_size, const uint8_t *list, size_t list_size);
+jellyspire_part reference_row(jellyspire_chip w, size_t table_size, size_t channel);
 
 // Closing changes table and list; opening only answers, and `reference_opened` writes what the chosen slots ask for.
-jellyspire_clearing reference_close(jellyspire_wheel w, uint8_t *table, size_t table_size, uint8_t *list, size_t list_size, size_t flow);
-reference_answer reference_open(jellyspire_wheel w, const uint8_t *table, size_t table_size, const uint8_t *list, size_t list_size,
-                                size_t flow, jellyspire_path path, unsigned words, unsigned deadline, uint64_t *free);
-void reference_opened(jellyspire_wheel w, uint8_t *table, uint8_t *list, size_t flow, jellyspire_path path, unsigned words,
-                      unsigned deadline, uint64_t slots);
+jellyspire_clearing reference_close(jellyspire_chip w, uint8_t *table, size_t table_size, uint8_t *list, size_t list_size, size_t flow);
+reference_answer reference_open(jellyspire_chip w, const uint8_t *table, size_t table_size, const uint8_t *list, size_t list_size,
+                                size_t flow, jellyspire_path path, size_t words, size_t deadline, uint64_t *free);
+void reference_opened(jellyspire_chip w, uint8_t *table, uint8_t *list, size_t flow, jellyspire_path path, size_t words,
+                      size_t deadline, uint64_t slots);
 
 #endif
