@@ -118,18 +118,18 @@ typedef struct {
 // Numbers and pointers only, so that it is the same on every 64-bit processor. The result is the number of the answer, and
 // the values of a yes are written to `values`. Here no pointer may be null, also where its size is 0.
 uint64_t jellyspire_raw_open(uint8_t *table, size_t table_size, uint8_t *list, size_t list_size, size_t n, size_t s, size_t h,
-                             size_t p, size_t flow, const uint16_t *path, size_t len, size_t words, size_t deadline,
-                             uint64_t *values);
+                             size_t p, size_t flow, const uint16_t path[16], size_t len, size_t words, size_t deadline,
+                             uint64_t values[3]);
 uint64_t jellyspire_raw_close(uint8_t *table, size_t table_size, uint8_t *list, size_t list_size, size_t n, size_t s,
-                              size_t h, size_t p, size_t flow, uint64_t *values);
+                              size_t h, size_t p, size_t flow, uint64_t values[1]);
 uint64_t jellyspire_raw_report(const uint8_t *table, size_t table_size, const uint8_t *list, size_t list_size, size_t n,
-                               size_t s, size_t h, size_t p, uint64_t *values);
+                               size_t s, size_t h, size_t p, uint64_t values[2]);
 uint64_t jellyspire_raw_agree(const uint8_t *table, size_t table_size, const uint8_t *list, size_t list_size, size_t n,
                               size_t s, size_t h, size_t p);
 uint64_t jellyspire_raw_row(const uint8_t *table, size_t table_size, size_t n, size_t s, size_t h, size_t p, size_t channel,
-                            uint64_t *values);
+                            uint64_t values[2]);
 uint64_t jellyspire_raw_select(size_t n, size_t s, size_t h, size_t p, uint64_t free, size_t words, size_t limit,
-                               uint64_t *values);
+                               uint64_t values[3]);
 
 // The library was built for a size_t of 64 bits.
 typedef char jellyspire_size_is_64_bits[sizeof(size_t) == 8 ? 1 : -1];

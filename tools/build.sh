@@ -1,10 +1,14 @@
 # shellcheck shell=bash
-# Sourced by the scripts that run a program of ours or link the archive. The script names itself in `me` first.
+# Sourced by the scripts that run a program of ours, make an archive or link one. The script names itself in `me` first.
 #
-#     build program NAME    proves and builds a program where it is missing or old; `built` is then its path
-#     build archive NAME    the same with the archive of a library for C
-#     for_x86               `compiler` builds C for x86-64 and `emulator` runs it (on x86-64 there is none to run it); where
-#                           one is not there, `missing` says so
+#     build program NAME          proves and builds a program where it is missing or old; `built` is then its path
+#     build code NAME             the same with the code of a library for C, as the kit hands it to its compiler (LLVM bitcode)
+#     processor_of [NAME]         `processor` is the one that is named, or this machine's own; ends the script where we make
+#                                 no archive for it
+#     for_processor               `compiler` builds C for `processor`, with the words `link`, and `emulator` runs it; on the
+#                                 machine's own processor none does. Where a tool is not there, `missing` says which
+#     for_rust                    the same for programs in Rust, after for_processor
+#     rust SOURCE PROGRAM         builds a program in Rust with the crate of rust/ and the archive in the folder of `archive`
 #
 # All that a build says goes to standard error: on a terminal one line that is written again, elsewhere a line for each
 # crate; where nothing is to build it says nothing. What is built is put into target/built when all of it is proved.
@@ -17,13 +21,75 @@ stop() { # STATUS WORDS
     exit "$1"
 }
 
-for_x86() {
-    compiler=cc emulator=() missing=
-    if [ "$(uname -m)" != x86_64 ]; then
-        compiler=x86_64-linux-gnu-gcc emulator=(qemu-x86_64)
-        command -v qemu-x86_64 > /dev/null || missing="no qemu-x86_64 to run x86-64 programs (Debian: qemu-user)"
+processor_of() { # [NAME]
+    processor=${1:-$(uname -m)}
+    case $processor in
+        x86_64 | aarch64 | riscv64) ;;
+        *) stop 2 "no archive is made for $processor; there is one for x86_64, aarch64 and riscv64" ;;
+    esac
+}
+
+for_processor() {
+    compiler=cc link=() emulator=() missing=
+    if [ "$processor" != "$(uname -m)" ]; then
+        compiler=$processor-linux-gnu-gcc link=(-static) emulator=("qemu-$processor")
+        command -v "${emulator[0]}" > /dev/null || missing="no ${emulator[0]} to run programs for $processor (Debian: qemu-user)"
+        command -v "$compiler" > /dev/null || missing="no $compiler to build for $processor (Debian: gcc-${processor//_/-}-linux-gnu)"
+    else
+        command -v cc > /dev/null || missing="no cc to build for this machine (Debian: gcc)"
     fi
-    command -v "$compiler" > /dev/null || missing="no $compiler to build for x86-64 (Debian: gcc or gcc-x86-64-linux-gnu)"
+}
+
+for_rust() {
+    local triple=$processor-unknown-linux-gnu
+    rust_words=()
+    if [ -z "$missing" ] && ! command -v rustc > /dev/null; then missing="no rustc"; fi
+    if [ -n "$missing" ] || [ "$compiler" = cc ]; then return 0; fi
+    triple=${triple/riscv64/riscv64gc}
+    ls "$(rustc --print target-libdir --target "$triple")"/libstd-*.rlib > /dev/null 2>&1 ||
+        missing="rustc has no library for $triple (rustup target add $triple)"
+    rust_words=(--target "$triple" -C "linker=$compiler")
+    emulator+=(-L "$(dirname "$("$compiler" -print-file-name=libc.so.6)")/..") # the cross compiler's C library
+}
+
+rust() { # SOURCE PROGRAM
+    local words=(--edition 2021 -O "${rust_words[@]}") crate=${2%/*}/libjellyspire.rlib
+    rustc "${words[@]}" -L "${archive%/*}" --crate-type rlib --crate-name jellyspire -o "$crate" "$top/rust/src/lib.rs" &&
+        rustc "${words[@]}" --extern "jellyspire=$crate" -o "$2" "$1"
+}
+
+# Where the kit stands.
+kit() {
+    local guide
+    guide=$(rt doc) && cd "${guide%/docs/*}" && pwd
+}
+
+links() { # FROM TO NAME    links in TO to all that FROM holds, but NAME
+    mkdir -p "$2"
+    find "$1" -mindepth 1 -maxdepth 1 ! -name "$3" -exec ln -s -t "$2" {} +
+}
+
+# A folder of links to the kit in which the compiler is a script of ours: it puts the code that it is handed into kept.bc
+# beside its folder, and then compiles as asked.
+stand_in() { # FOLDER
+    local from own
+    from=$(kit)
+    own=on/$(uname -m)
+    rm -rf "$1"
+    links "$from" "$1" on
+    links "$from/$own" "$1/$own" toolchain
+    links "$from/$own/toolchain" "$1/$own/toolchain" bin
+    links "$from/$own/toolchain/bin" "$1/$own/toolchain/bin" clang
+    ln -s "$from/$own/toolchain/bin" "$1/$own/toolchain/real"
+    cat > "$1/$own/toolchain/bin/clang" << 'SCRIPT'
+#!/bin/sh
+tools=${0%/bin/clang}
+for word; do
+    case $word in *.bc) cp "$word" "$tools/kept.bc" || exit ;; esac
+done
+exec "$tools/real/clang" "$@"
+SCRIPT
+    chmod +x "$1/$own/toolchain/bin/clang"
 }
 
 # The crate and every crate of the repository that it stands on, a line each.
@@ -57,7 +123,7 @@ prove() { # KIND NAME CRATE...
     else
         [ $# = 3 ] || rt check "${@:3:$#-3}" || return
         local began=$SECONDS
-        rt staticlib "$2" && echo "rt: $2 proved ($((SECONDS - began)) s)"
+        RATTLE_HOME=$top/target/kit rt staticlib "$2" && echo "rt: $2 proved ($((SECONDS - began)) s)"
     fi
 }
 
@@ -93,8 +159,9 @@ ended_by() { # SIGNAL
 build() { # KIND NAME
     local kind=$1 name=$2 what="the program $2" from=$top/target/bin/$2 began=$SECONDS status=0 runs=1 bad='' last='' job='' signal crates
     local -A proved=()
-    [ "$kind" = program ] || what="the archive lib$2.a" from=$top/target/staticlib/lib$2.a
-    built=$top/target/built/${from##*/}
+    [ "$kind" = program ] || what="the code of $2 for C" from=$top/target/kit/on/$(uname -m)/toolchain/kept.bc
+    built=$top/target/built/$name
+    [ "$kind" = program ] || built+=.bc
     local mark=$built.mark log=$built.log
     command -v rt > /dev/null || stop 2 "no rt on the PATH; it is a part of the Rattle kit, which proves and builds what is run here"
     mapfile -t crates < <(crates_of "$name")
@@ -103,7 +170,7 @@ build() { # KIND NAME
     tell "proving and building $what, ${#crates[@]} crates; from nothing this takes minutes"
     mkdir -p "${built%/*}"
     rm -f "$built" "$mark"
-    [ "$kind" = program ] || rm -f "$from" # rt keeps an old archive where the proof fails, and builds it anew where it does not
+    [ "$kind" = program ] || stand_in "$top/target/kit"
     rt version > "$mark.new" # what changes from here on is newer
     trap halt EXIT
     for signal in HUP INT TERM; do
@@ -128,11 +195,12 @@ build() { # KIND NAME
     fi
     trap - EXIT HUP INT TERM
 
-    [ "$kind$status" != archive1 ] || bad=${bad:-$name} # rt staticlib names no crate
+    [ "$kind$status" != code1 ] || bad=${bad:-$name} # rt staticlib names no crate
     [ -z "$bad" ] || stop 1 "crate $bad is not proved, so nothing was built; $top/target/log/$bad.say has what the prover said"
     [ "$status" = 0 ] || stop 1 "nothing was built, rt ended with status $status; $log says why"
     cp "$from" "$built.new"
     mv "$built.new" "$built"
     mv "$mark.new" "$mark"
+    [ "$kind" = program ] || rm -rf "$top/target/kit"
     tell "built in $((SECONDS - began)) s"
 }
