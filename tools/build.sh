@@ -2,7 +2,8 @@
 # Sourced by the scripts that run a program of ours, make an archive or link one. The script names itself in `me` first.
 #
 #     build program NAME          proves and builds a program where it is missing or old; `built` is then its path
-#     build code NAME             the same with the code of a library for C, as the kit hands it to its compiler (LLVM bitcode)
+#     build code NAME FILE...     the same with the code of a library for C, as the kit hands it to its compiler (LLVM bitcode);
+#                                 the files were made from old code, and go with it
 #     processor_of [NAME]         `processor` is the one that is named, or this machine's own; ends the script where we make
 #                                 no archive for it
 #     for_processor               `compiler` builds C for `processor`, with the words `link`, and `emulator` runs it; on the
@@ -144,6 +145,7 @@ progress() { # LOG BEGAN COUNT
 halt() {
     [ -z "$job" ] || kill -TERM -- "-$job" 2> /dev/null || true
     [ -z "$job" ] || wait "$job" 2> /dev/null || true
+    rm -rf "$top/target/kit"
     wipe
 }
 
@@ -156,7 +158,7 @@ ended_by() { # SIGNAL
     kill -s "$1" $$
 }
 
-build() { # KIND NAME
+build() { # KIND NAME FILE...
     local kind=$1 name=$2 what="the program $2" from=$top/target/bin/$2 began=$SECONDS status=0 runs=1 bad='' last='' job='' signal crates
     local -A proved=()
     [ "$kind" = program ] || what="the code of $2 for C" from=$top/target/kit/on/$(uname -m)/toolchain/kept.bc
@@ -169,7 +171,7 @@ build() { # KIND NAME
 
     tell "proving and building $what, ${#crates[@]} crates; from nothing this takes minutes"
     mkdir -p "${built%/*}"
-    rm -f "$built" "$mark"
+    rm -f "$built" "$mark" "${@:3}"
     [ "$kind" = program ] || stand_in "$top/target/kit"
     rt version > "$mark.new" # what changes from here on is newer
     trap halt EXIT
@@ -194,13 +196,15 @@ build() { # KIND NAME
         wipe
     fi
     trap - EXIT HUP INT TERM
+    rm -f "$built.new"
+    if [ "$status" = 0 ] && [ -z "$bad" ] && [ -e "$from" ]; then cp "$from" "$built.new"; fi
+    rm -rf "$top/target/kit"
 
     [ "$kind$status" != code1 ] || bad=${bad:-$name} # rt staticlib names no crate
     [ -z "$bad" ] || stop 1 "crate $bad is not proved, so nothing was built; $top/target/log/$bad.say has what the prover said"
     [ "$status" = 0 ] || stop 1 "nothing was built, rt ended with status $status; $log says why"
-    cp "$from" "$built.new"
+    [ -e "$built.new" ] || stop 1 "nothing was built: the kit gave no ${from##*/}"
     mv "$built.new" "$built"
     mv "$mark.new" "$mark"
-    [ "$kind" = program ] || rm -rf "$top/target/kit"
     tell "built in $((SECONDS - began)) s"
 }
