@@ -147,6 +147,7 @@ static inline jellyspire_buffers jellyspire_lent(jellyspire_buffers lent, uint8_
     }
     return lent;
 }
+
 // ---- the calls
 
 // Opens `flow` on a path with a demand of `words` words in a revolution, each there within `deadline` slots: chooses the
