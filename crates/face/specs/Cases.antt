@@ -1,59 +1,62 @@
--- What selection's answer is for C, case by case. A granted set has no more slots than the wheel, so that its size fits 16
--- bits.
-use mathlib.Core.Path.{_≡_, refl, sym, subst, _∙_}
-use mathlib.Core.Logic.{inl, inr}
-use Prim.Native.Nat.{ℕ, _≤_}
+-- What C is told, case by case, and the row by whether it has a cell.
+use mathlib.Core.Path.{_≡_, refl, ap, subst, _∙_}
+use mathlib.Core.List.{List, [], _∷_}
+use mathlib.Core.Logic.{_⊎_, inl, inr}
+use Prim.Native.Nat.{ℕ, _*_, _≤_, _<_}
 use native.Mathlib.Omega.{arith}
-use native.Mathlib.Decide.{decLe}
+use lib.ListN.{length, drop, length-drop}
+use lib.Seq.{length-take-le}
 use Rattle.rules.specs.declared.Wheel.{Wheel}
-use Rattle.rules.specs.declared.Grant.{Grant}
+use Rattle.rules.specs.declared.Totals.{Totals}
 use Rattle.rules.specs.declared.Refusal.{Refusal}
-use Rattle.rules.specs.declared.Selected.{Selected}
-use Rattle.rules.specs.declared.Selected.the-variants.{Chosen, Refused}
-use Rattle.rules.specs.Wheels.{Legal}
-use Rattle.rules.specs.Numbers.{number, Refuses, Passes}
-use Rattle.rules.specs.Orders.{selectOrder}
-use Rattle.rules.specs.Promises.{Grants, Selects}
-use Rattle.face.specs.declared.Selection.{Selection}
-use Rattle.laws.specs.Bounds.{size-most}
-use Rattle.face.specs.Selection.{Answers}
+use Rattle.rules.specs.declared.Reported.{Reported}
+use Rattle.rules.specs.declared.Reported.the-variants as reported
+use Rattle.rules.specs.Paths.{chipOf}
+use Rattle.rules.specs.Numbers.{number}
+use Rattle.rules.specs.Promises.{Reports, HasRow, Row}
+use Rattle.laws.specs.Logic.{le-or-lt}
+use Rattle.bytes_calls.specs.OverBytes.{ReportsBytes}
+use Rattle.face.specs.Told.{Said, Told}
+use Rattle.face.specs.Calls.{Agreeing, Rowing}
 
-pub slots-at-most : (w : Wheel) → ¬ (¬ Legal w) → w .n ≤ 64
-slots-at-most w h = go (decLe (w .n) 64)
-  where
-    go : Dec (w .n ≤ 64) → w .n ≤ 64
-    go (yes l) = l
-    go (no l) = absurd (h (λ legal. l (legal .n64)))
+-- ---- an answer
 
-module _ (w : Wheel) (free W L : ℕ) (r : Selected) (promised : Selects w free W L r) where
-  granted : (g : Grant) → r ≡ Chosen g → Passes (selectOrder w free W L) × Grants w free W L g
-  unfolding Selects
-  granted g e = subst (Selects w free W L) e promised
+module _ {A : Type 0} (ofAnswer : A → Said) (a : A) (k : ℕ) (v v′ : List ℕ) where
+  pub told-as : (b : A) → a ≡ b → Told (ofAnswer b) k v v′ → Told (ofAnswer a) k v v′
+  told-as b e t = rw e t
 
-  refused : (why : Refusal) → r ≡ Refused why → Refuses (selectOrder w free W L) (number why)
-  unfolding Selects
-  refused why e = subst (Selects w free W L) e promised
+-- ---- agreement
 
-  pub small : (g : Grant) → r ≡ Chosen g → g .count ≤ 64
-  unfolding Passes
-  small g e =
-      let (passes, grants) = granted g e in
-      omega (arith, grants .count, size-most (w .n) (g .slots), slots-at-most w (passes .0))
+module _ (w : Wheel) (t b : List ℕ) (a : Reported) (reports : ReportsBytes (chipOf w t) t b a) where
+  pub agree-yes : (c : Totals) → a ≡ reported.Counted c → Agreeing w t b 0
+  unfolding Agreeing Reports
+  agree-yes c e = inl (refl, subst (ReportsBytes (chipOf w t) t b) e reports .0)
 
-  pub grant : (g : Grant) → r ≡ Chosen g
-      → Answers w free W L record { slots = g .slots; number = 0; count = g .count; words = g .words .0 }
-  unfolding Answers
-  grant g e = let (passes, grants) = granted g e in inl (record { number = refl; passes = passes; grants = grants })
+  pub agree-no : (q : Refusal) (k : ℕ) → a ≡ reported.Refused q → k ≡ number q → Agreeing w t b k
+  unfolding Agreeing Reports
+  agree-no q k e same = rw same (inr (subst (ReportsBytes (chipOf w t) t b) e reports))
 
-  pub refusal : (why : Refusal) → r ≡ Refused why
-      → (s : Selection) (k : ℕ) → k ≡ number why → (s .number ≡ k) × (s .slots ≡ 0) × (s .count ≡ 0) × (s .words ≡ 0)
-      → Answers w free W L s
-  unfolding Answers
-  refusal why e s k same (told, slots, count, words) =
-      inr
-      (record {
-        number = subst (Refuses (selectOrder w free W L)) (sym (told ∙ same)) (refused why e);
-        slots = slots;
-        count = count;
-        words = words;
-      })
+-- ---- the row
+
+module _ (w : Wheel) (t : List ℕ) (c : ℕ) (part : List ℕ) (told : Row (chipOf w t) t c part) (k : ℕ) (k-is : k ≡ length part) where
+  row-long : HasRow (chipOf w t) t c → k ≡ w .n
+  row-long a =
+      k-is ∙ ap length (told .good a)
+      ∙ length-take-le (w .n) (drop (64 * c) t) (omega (arith, length-drop (64 * c) t, a .tabled .long, a .inside, a .legal .n64))
+
+  row-some : ¬ (k ≡ 0) → ¬ (¬ HasRow (chipOf w t) t c)
+  row-some some never = some (k-is ∙ ap length (told .bad never))
+
+  pub row-none : k ≡ 0 → (v : List ℕ) → Rowing w t c 1 v v
+  row-none e v = record { good = λ a. absurd (omega (arith, row-long a, a .legal .n1)); bad = λ _. (refl, refl) }
+
+  pub row-inside : ¬ (k ≡ 0) → c < 64
+  row-inside some = go (le-or-lt 64 c)
+    where
+      go : (64 ≤ c) ⊎ (c < 64) → c < 64
+      go (inl l) = absurd (row-some some (λ a. omega (arith, a .inside, a .tabled .c64)))
+      go (inr l) = l
+
+  pub row-there : ¬ (k ≡ 0) → (v : List ℕ) → Rowing w t c 0 v (64 * c ∷ k ∷ [])
+  row-there some v =
+      record { good = λ a. (refl, ap (λ x. 64 * c ∷ x ∷ []) (row-long a)); bad = λ never. absurd (row-some some never) }

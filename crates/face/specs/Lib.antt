@@ -1,4 +1,5 @@
-pub mod Selection
-pub mod Cases
+pub mod Told
 pub mod Calls
+pub mod Wide
+pub mod Cases
 pub mod Unique

@@ -1,232 +1,239 @@
-// Jellyspire for C: thin functions over the library, under the names and with the structs of
-// include/jellyspire.h. An answer is a number, 0 for a yes, with its values beside it. The flow list
-// is lent as bytes, 64 for each record (docs/RECORD.md).
+// Jellyspire for C: the raw boundary, which is the same on every 64-bit processor. Its functions take
+// and give integers and slices only. Each returns its number, 0 for a yes, and puts the values of a
+// yes into the array that it is lent; a no leaves every lent byte as it was, the array too. The flow
+// list is lent as bytes, 64 for each record (docs/RECORD.md). What users call stands in
+// include/jellyspire.h.
 ghost use mathlib.Core.Path.{_≡_};
-ghost use Rattle.face.specs.Selection.{Answers, wheelOf};
-ghost use Rattle.face.specs.Calls.{FewSlots, selectionOf, clearingOf, reportOf, Agreeing, Reporting, Closing, Opening, RowPart};
+ghost use Prim.Native.Nat.{min};
+ghost use Rattle.rules.specs.Paths.{chipOf};
+ghost use Rattle.rules.specs.Numbers.{number};
+ghost use Rattle.rules.specs.Promises.{Selects};
+ghost use Rattle.bytes_calls.specs.OverBytes.{ReportsBytes, ClosesBytes};
+ghost use Rattle.face.specs.Told.{Told, ofSelected, ofOpened, ofCleared, ofReported, grantValues, Answered};
+ghost use Rattle.face.specs.Calls.{wheelOf, Agreeing, OpensGiven, Rowing};
 use rules::Cleared;
 use rules::Demand;
+use rules::Grant;
 use rules::Opened;
+use rules::Refusal;
 use rules::Reported;
 use rules::Selected;
 use rules::Wheel;
 use rules::Words;
 
-// A wheel, in C's types.
-#[repr(C)]
-pub struct FaceWheel {
-    pub n: usize,
-    pub s: u16,
-    pub h: u16,
-    pub p: usize,
-}
+// ---- what C gives
 
-// What bare selection answers: `number` is 0 for a grant, and then the rest says which slots, how
-// many, and how many words they deliver; else it is the refusal's number, and the rest is 0.
-#[repr(C)]
-pub struct Selection {
-    pub slots: u64,
-    pub number: u32,
-    pub count: u16,
-    pub words: u16,
-}
-
-// A refusal.
-fn refused(number: u8) -> Selection
-    ensures { λ r. ⌜ (r .number ≡ number) × (r .slots ≡ 0) × (r .count ≡ 0) × (r .words ≡ 0) ⌝ }
+// A number as 16 bits hold it: 65,535 for all above.
+fn short(v: usize) -> u16
+    ensures { λ r. ⌜ r ≡ min v 65535 ⌝ }
 {
-    Selection {
-        slots: 0,
-        number: number as u32,
-        count: 0,
-        words: 0,
+    if 65535 < v {
+        return 65535;
     }
+    v as u16
 }
 
-// Bare selection.
-#[no_mangle]
-pub extern "C" fn jellyspire_select(
-    wheel: FaceWheel,
-    free: u64,
-    words: u16,
-    limit: u16,
-) -> Selection
-    ensures { λ r. ⌜ Answers (wheelOf wheel) free words limit r ⌝ }
+// The wheel of four numbers. No wheel with S or H above 65,535 is legal, and none becomes so.
+fn wheel_of(n: usize, s: usize, h: usize, p: usize) -> Wheel
+    ensures { λ r. ⌜ r ≡ wheelOf n (min s 65535) (min h 65535) p ⌝ }
 {
-    let w = Wheel {
-        n: wheel.n,
-        s: Words(wheel.s),
-        h: Words(wheel.h),
-        p: wheel.p,
-    };
-    match select::select(w, free, Words(words), limit) {
-        Selected::Chosen(g) => Selection {
-            slots: g.slots,
-            number: 0,
-            count: g.count as u16,
-            words: g.words.0,
-        },
-        Selected::Refused(no) => refused(numbers::number(no)),
-    }
-}
-
-// A path: sixteen channel numbers, of which the first `length` count.
-#[repr(C)]
-pub struct FacePath {
-    pub channels: [u16; 16],
-    pub length: usize,
-}
-
-// What closing answers: how many cells were cleared, or the refusal's number and 0.
-#[repr(C)]
-pub struct Clearing {
-    pub cells: usize,
-    pub number: u32,
-}
-
-// What the report answers: free and held cells, or the refusal's number and zeros.
-#[repr(C)]
-pub struct Report {
-    pub free: usize,
-    pub held: usize,
-    pub number: u32,
-}
-
-// A part of the table: where it starts and how many bytes it has.
-#[repr(C)]
-pub struct Part {
-    pub offset: usize,
-    pub length: usize,
-}
-
-// The wheel that C's struct stands for.
-fn wheel_of(wheel: FaceWheel) -> Wheel
-    ensures { λ r. ⌜ r ≡ wheelOf wheel ⌝ }
-{
+    let words = short(s);
+    let header = short(h);
     Wheel {
-        n: wheel.n,
-        s: Words(wheel.s),
-        h: Words(wheel.h),
-        p: wheel.p,
+        n,
+        s: Words(words),
+        h: Words(header),
+        p,
     }
 }
 
-// A refusal's number in C's type.
-fn wide(number: u8) -> u32
+// ---- what C is told
+
+// The number of a refusal in 64 bits.
+fn wide(number: u8) -> u64
     ensures { λ r. ⌜ r ≡ number ⌝ }
 {
-    number as u32
+    number as u64
 }
 
-// The answer of the report, for C.
-fn report_of(a: Reported) -> Report
-    ensures { λ r. ⌜ r ≡ reportOf a ⌝ }
+// A number of words in 64 bits.
+fn long(words: Words) -> u64
+    ensures { λ r. ⌜ r ≡ words .0 ⌝ }
+{
+    words.0 as u64
+}
+
+// Document 01's number of a refusal.
+fn number_of(no: Refusal) -> u64
+    ensures { λ r. ⌜ r ≡ number no ⌝ }
+{
+    wide(numbers::number(no))
+}
+
+// A grant's slots, their number, and the words that they deliver.
+fn tell_grant(g: Grant, values: &mut [u64; 3])
+    ensures { λ _. ⌜ now (values .exit) ≡ grantValues g ⌝ }
+{
+    let words = g.words;
+    *values = [g.slots, g.count as u64, long(words)];
+}
+
+// The answer of bare selection.
+fn tell_selected(a: Selected, values: &mut [u64; 3]) -> u64
+    ensures { λ k. ⌜ Told (ofSelected a) k (now (values .entry)) (now (values .exit)) ⌝ }
 {
     match a {
-        Reported::Counted(c) => Report {
-            free: c.free,
-            held: c.held,
-            number: 0,
-        },
-        Reported::Refused(no) => Report {
-            free: 0,
-            held: 0,
-            number: wide(numbers::number(no)),
-        },
+        Selected::Chosen(g) => {
+            tell_grant(g, values);
+            0
+        }
+        Selected::Refused(no) => number_of(no),
+    }
+}
+
+// The answer of an opening.
+fn tell_opened(a: Opened, values: &mut [u64; 3]) -> u64
+    ensures { λ k. ⌜ Told (ofOpened a) k (now (values .entry)) (now (values .exit)) ⌝ }
+{
+    match a {
+        Opened::Granted(g) => {
+            tell_grant(g, values);
+            0
+        }
+        Opened::Refused(no) => number_of(no),
+    }
+}
+
+// The answer of a closing: how many cells it cleared.
+fn tell_cleared(a: Cleared, values: &mut [u64; 1]) -> u64
+    ensures { λ k. ⌜ Told (ofCleared a) k (now (values .entry)) (now (values .exit)) ⌝ }
+{
+    match a {
+        Cleared::Cells(cells) => {
+            *values = [cells as u64];
+            0
+        }
+        Cleared::Refused(no) => number_of(no),
+    }
+}
+
+// The answer of the report: free and held cells.
+fn tell_reported(a: Reported, values: &mut [u64; 2]) -> u64
+    ensures { λ k. ⌜ Told (ofReported a) k (now (values .entry)) (now (values .exit)) ⌝ }
+{
+    match a {
+        Reported::Counted(c) => {
+            *values = [c.free as u64, c.held as u64];
+            0
+        }
+        Reported::Refused(no) => number_of(no),
+    }
+}
+
+// ---- the calls
+
+// Bare selection: slots, how many, words.
+#[no_mangle]
+pub extern "C" fn jellyspire_raw_select(
+    n: usize,
+    s: usize,
+    h: usize,
+    p: usize,
+    free: u64,
+    words: usize,
+    limit: usize,
+    values: &mut [u64; 3],
+) -> u64
+    ensures { λ k. ⌜ Answered (Selects (wheelOf n s h p) free words limit) ofSelected k (now (values .entry)) (now (values .exit)) ⌝ }
+{
+    let w = wheel_of(n, s, h, p);
+    let least = Words(short(words));
+    let most = short(limit);
+    tell_selected(select::select(w, free, least, most), values)
+}
+
+// Whether table and list agree: 0, or the number of the first thing that is wrong.
+#[no_mangle]
+pub extern "C" fn jellyspire_raw_agree(
+    table: &[u8],
+    list: &[u8],
+    n: usize,
+    s: usize,
+    h: usize,
+    p: usize,
+) -> u64
+    ensures { λ k. ⌜ Agreeing (wheelOf n s h p) (now (table .entry)) (now (list .entry)) k ⌝ }
+{
+    let w = wheel_of(n, s, h, p);
+    match bytes_calls::report(table, list, w) {
+        Reported::Counted(_) => 0,
+        Reported::Refused(no) => number_of(no),
     }
 }
 
 // Free and held cells.
 #[no_mangle]
-pub extern "C" fn jellyspire_report(wheel: FaceWheel, table: &[u8], list: &[u8]) -> Report
-    ensures { λ r. ⌜ Reporting (wheelOf wheel) (now (table .entry)) (now (list .entry)) r ⌝ }
+pub extern "C" fn jellyspire_raw_report(
+    table: &[u8],
+    list: &[u8],
+    n: usize,
+    s: usize,
+    h: usize,
+    p: usize,
+    values: &mut [u64; 2],
+) -> u64
+    ensures { λ k. ⌜ Answered (ReportsBytes (chipOf (wheelOf n s h p) (now (table .entry))) (now (table .entry)) (now (list .entry))) ofReported k (now (values .entry)) (now (values .exit)) ⌝ }
 {
-    let w = wheel_of(wheel);
-    report_of(bytes_calls::report(table, list, w))
+    let w = wheel_of(n, s, h, p);
+    tell_reported(bytes_calls::report(table, list, w), values)
 }
 
-// Whether table and list agree: 0, or the number of the first thing that is wrong.
+// Opens a flow on a path of `len` channels with a demand: slots, how many, words.
 #[no_mangle]
-pub extern "C" fn jellyspire_agree(wheel: FaceWheel, table: &[u8], list: &[u8]) -> u32
-    ensures { λ r. ⌜ Agreeing (wheelOf wheel) (now (table .entry)) (now (list .entry)) r ⌝ }
-{
-    let w = wheel_of(wheel);
-    let r = report_of(bytes_calls::report(table, list, w));
-    r.number
-}
-
-// The answer of a closing, for C.
-fn clearing_of(a: Cleared) -> Clearing
-    ensures { λ r. ⌜ r ≡ clearingOf a ⌝ }
-{
-    match a {
-        Cleared::Cells(k) => Clearing {
-            cells: k,
-            number: 0,
-        },
-        Cleared::Refused(no) => Clearing {
-            cells: 0,
-            number: wide(numbers::number(no)),
-        },
-    }
-}
-
-// Closes a flow.
-#[no_mangle]
-pub extern "C" fn jellyspire_close(
-    wheel: FaceWheel,
+pub extern "C" fn jellyspire_raw_open(
     table: &mut [u8],
     list: &mut [u8],
+    n: usize,
+    s: usize,
+    h: usize,
+    p: usize,
     flow: usize,
-) -> Clearing
-    ensures { λ r. ⌜ Closing (wheelOf wheel) (now (table .entry)) (now (list .entry)) flow (now (table .exit)) (now (list .exit)) r ⌝ }
+    path: &[u16; 16],
+    len: usize,
+    words: usize,
+    deadline: usize,
+    values: &mut [u64; 3],
+) -> u64
+    ensures { λ k. ⌜ Answered (OpensGiven (chipOf (wheelOf n s h p) (now (table .entry))) (now (table .entry)) (now (list .entry)) (now (path .entry)) len flow words deadline (now (table .exit)) (now (list .exit))) ofOpened k (now (values .entry)) (now (values .exit)) ⌝ }
 {
-    let w = wheel_of(wheel);
-    clearing_of(bytes_calls::close(table, list, w, flow))
-}
-
-// The answer of an opening, for C.
-fn selection_of(a: Opened) -> Selection
-    requires { ⌜ FewSlots a ⌝ }
-    ensures { λ r. ⌜ r ≡ selectionOf a ⌝ }
-{
-    match a {
-        Opened::Granted(g) => Selection {
-            slots: g.slots,
-            number: 0,
-            count: g.count as u16,
-            words: g.words.0,
-        },
-        Opened::Refused(no) => Selection {
-            slots: 0,
-            number: wide(numbers::number(no)),
-            count: 0,
-            words: 0,
-        },
-    }
-}
-
-// Opens a flow on a path with a demand.
-#[no_mangle]
-pub extern "C" fn jellyspire_open(
-    wheel: FaceWheel,
-    table: &mut [u8],
-    list: &mut [u8],
-    flow: usize,
-    path: FacePath,
-    words: u16,
-    deadline: u16,
-) -> Selection
-    ensures { λ r. ⌜ Opening (wheelOf wheel) (now (table .entry)) (now (list .entry)) path flow words deadline (now (table .exit)) (now (list .exit)) r ⌝ }
-{
-    let w = wheel_of(wheel);
-    let channels = path.channels;
-    let length = path.length;
+    let w = wheel_of(n, s, h, p);
+    let channels = *path;
     let demand = Demand {
-        words: Words(words),
-        deadline,
+        words: Words(short(words)),
+        deadline: short(deadline),
     };
-    selection_of(bytes_calls::open(table, list, w, flow, channels, length, demand))
+    tell_opened(
+        bytes_calls::open(table, list, w, flow, channels, len, demand),
+        values,
+    )
+}
+
+// Closes a flow: how many cells that cleared.
+#[no_mangle]
+pub extern "C" fn jellyspire_raw_close(
+    table: &mut [u8],
+    list: &mut [u8],
+    n: usize,
+    s: usize,
+    h: usize,
+    p: usize,
+    flow: usize,
+    values: &mut [u64; 1],
+) -> u64
+    ensures { λ k. ⌜ Answered (ClosesBytes (chipOf (wheelOf n s h p) (now (table .entry))) (now (table .entry)) (now (list .entry)) flow (now (table .exit)) (now (list .exit))) ofCleared k (now (values .entry)) (now (values .exit)) ⌝ }
+{
+    let w = wheel_of(n, s, h, p);
+    tell_cleared(bytes_calls::close(table, list, w, flow), values)
 }
 
 // The number of bytes of a part.
@@ -236,21 +243,26 @@ fn size_of(part: &[u8]) -> usize
     part.len()
 }
 
-// Where the row of a channel stands in the table; 0 and 0 if wheel, table or channel is bad.
+// Where the row of a channel starts in the table, and its length; 1 and nothing told if wheel, table
+// or channel is bad.
 #[no_mangle]
-pub extern "C" fn jellyspire_row(wheel: FaceWheel, table: &[u8], channel: usize) -> Part
-    ensures { λ r. ⌜ RowPart (wheelOf wheel) (now (table .entry)) channel r ⌝ }
+pub extern "C" fn jellyspire_raw_row(
+    table: &[u8],
+    n: usize,
+    s: usize,
+    h: usize,
+    p: usize,
+    channel: usize,
+    values: &mut [u64; 2],
+) -> u64
+    ensures { λ k. ⌜ Rowing (wheelOf n s h p) (now (table .entry)) channel k (now (values .entry)) (now (values .exit)) ⌝ }
 {
-    let w = wheel_of(wheel);
+    let w = wheel_of(n, s, h, p);
     let length = size_of(table::row(table, w, channel));
     if length == 0 {
-        return Part {
-            offset: 0,
-            length: 0,
-        };
+        return 1;
     }
-    Part {
-        offset: 64 * channel,
-        length,
-    }
+    let offset = 64 * channel;
+    *values = [offset as u64, length as u64];
+    0
 }

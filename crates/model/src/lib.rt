@@ -212,12 +212,17 @@ pub fn put_slots(list: &mut [u8], f: u64, x: u64) {
     put_number(list, f, SLOTS + 3, x >> 48);
 }
 
+// A deadline as a record's 16 bits keep it: 65,535 for all above.
+fn kept(deadline: u64) -> u64 {
+    if 65535 < deadline { 65535 } else { deadline }
+}
+
 // Makes the record of the flow asked for open, with these slots.
 fn put_open(list: &mut [u8], a: Asked, x: u64) {
     let path = a.path;
     put_number(list, a.flow, STATE, 1);
     put_number(list, a.flow, WORDS, a.words);
-    put_number(list, a.flow, DEADLINE, a.deadline);
+    put_number(list, a.flow, DEADLINE, kept(a.deadline));
     put_number(list, a.flow, LENGTH, a.len);
     put_path(list, a.flow, path, a.len);
     put_slots(list, a.flow, x);
@@ -619,11 +624,10 @@ pub fn answer(call: Call, table: &mut [u8], list: &mut [u8], a: Asked) -> Reply 
     }
 }
 
-// Where the row of a channel stands and how many cells it has; 0 and 0 for a bad wheel, table or
-// channel.
+// Where the row of a channel stands and how many cells it has; 1 for a bad wheel, table or channel.
 pub fn row(a: Asked, channel: u64) -> Reply {
     if !apart::fits(a.n, a.s, a.h, a.p) || !rows(a.table) || a.table / 64 <= channel {
-        return refused(0);
+        return refused(1);
     }
     answered(0, (channel % 64) * 64, a.n, 0)
 }

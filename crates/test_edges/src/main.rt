@@ -119,7 +119,7 @@ fn every_table(table: &[u8], list: &[u8]) -> Tally {
 fn one_row(t: Tally, table: &[u8], a: Asked, channel: u64) -> Tally {
     let c = channel % 128;
     let there = model::answered(0, 64 * c, a.n, 0);
-    let expected = if c < 16 { there } else { model::refused(0) };
+    let expected = if c < 16 { there } else { model::refused(1) };
     let got = through::row(table, a, c);
     let right = model::same_reply(got, expected) && model::same_reply(got, model::row(a, c));
     trial::counted(t, right)
@@ -142,8 +142,8 @@ fn no_rows(table: &[u8]) -> Tally {
     let wheel = trial::asked(65, 3, 1, 3);
     let mut short = trial::asked(8, 3, 1, 3);
     short.table = 1023;
-    let one = model::same_reply(through::row(table, wheel, 0), model::refused(0));
-    let two = model::same_reply(through::row(table, short, 0), model::refused(0));
+    let one = model::same_reply(through::row(table, wheel, 0), model::refused(1));
+    let two = model::same_reply(through::row(table, short, 0), model::refused(1));
     trial::counted(trial::counted(trial::none(), one), two)
 }
 
@@ -192,6 +192,46 @@ fn least_deadlines(table: &[u8], list: &[u8], w: Asked) -> Tally {
     sum
 }
 
+// ---- numbers above 65,535, on a free table: 16 bits would cut each to one that is answered otherwise
+
+// S of 65,539, cut to 3, and H of 65,537, cut to 1, are no wheel's.
+fn wide_wheels(table: &[u8], list: &[u8]) -> Tally {
+    let s = trial::asked(8, 65539, 1, 3);
+    let h = trial::asked(8, 3, 65537, 3);
+    let one = trial::all_refused(trial::none(), table, list, s, trial::unhit(), 1);
+    trial::all_refused(one, table, list, h, trial::unhit(), 1)
+}
+
+// No slots deliver 65,538 words, cut to 2; a deadline of 65,538, cut to 2, leaves time for a path of 3.
+fn wide_demands(t: Tally, table: &[u8], list: &[u8]) -> Tally {
+    let wheel = trial::asked(8, 3, 1, 3);
+    let words = asked(wheel, 3, 65538, 20);
+    let deadline = asked(wheel, 3, 2, 65538);
+    let one = trial::refused(t, Call::Open, table, list, words, trial::unhit(), 13);
+    let reply = model::answered(0, 1, 1, 2);
+    trial::replied(
+        one,
+        Call::Open,
+        table,
+        list,
+        deadline,
+        trial::unhit(),
+        reply,
+    )
+}
+
+// The same of bare selection; a limit of 65,536 is cut to 0.
+fn wide_selections(t: Tally) -> Tally {
+    let wheel = trial::asked(8, 3, 1, 3);
+    let words = asked(wheel, 3, 65538, 20);
+    let one = model::same_reply(through::select(words, 255, 8), model::refused(13));
+    let two = model::same_reply(
+        through::select(wheel, 255, 65536),
+        model::answered(0, 1, 1, 2),
+    );
+    trial::counted(trial::counted(t, one), two)
+}
+
 // ---- all of it
 
 // Prints what was tried of the least deadline on a wheel.
@@ -203,7 +243,7 @@ fn deadline_line(table: &[u8], list: &[u8], n: u64, s: u64, h: u64, p: u64) {
     trial::line(b"", least_deadlines(table, list, trial::asked(n, s, h, p)));
 }
 
-// On a free table: its lengths, and the least deadline on several wheels.
+// On a free table: its lengths, the least deadline on several wheels, and wide numbers.
 fn free(table: &[u8], list: &[u8]) {
     trial::line(b"a table length", every_table(table, list));
     deadline_line(table, list, 8, 3, 1, 3);
@@ -211,6 +251,8 @@ fn free(table: &[u8], list: &[u8]) {
     deadline_line(table, list, 5, 2, 0, 1);
     deadline_line(table, list, 64, 3, 1, 3);
     deadline_line(table, list, 63, 64, 63, 64);
+    let wide = wide_demands(wide_wheels(table, list), table, list);
+    trial::line(b"a number above 65535", wide_selections(wide));
 }
 
 // Lengths of table and list of the four flows.
