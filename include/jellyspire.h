@@ -31,7 +31,7 @@ extern "C" {
 // A record of the list: 32 numbers of 16 bits, low byte first.
 //   bytes  0.. 1  state: 0 closed, 1 open
 //          2.. 3  words asked for in a revolution; 0 if closed
-//          4.. 5  deadline in slots; 0 if closed
+//          4.. 5  deadline in slots, 65535 for a longer one; 0 if closed
 //          6.. 7  path length, 1 to 16; 0 if closed
 //          8..39  sixteen channel numbers; 0 from the path length on
 //         40..47  the chosen slots, bit s of the 64-bit number is slot s; 0 if closed

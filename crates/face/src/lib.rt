@@ -182,7 +182,8 @@ pub extern "C" fn jellyspire_raw_report(
     p: usize,
     values: &mut [u64; 2],
 ) -> u64
-    ensures { λ k. ⌜ Answered (ReportsBytes (chipOf (wheelOf n s h p) (now (table .entry))) (now (table .entry)) (now (list .entry))) ofReported k (now (values .entry)) (now (values .exit)) ⌝ }
+    ensures { λ k. ⌜ Answered (ReportsBytes (chipOf (wheelOf n s h p) (now (table .entry))) (now (table .entry)) (now (list .entry)))
+        ofReported k (now (values .entry)) (now (values .exit)) ⌝ }
 {
     let w = wheel_of(n, s, h, p);
     tell_reported(bytes_calls::report(table, list, w), values)
@@ -204,7 +205,8 @@ pub extern "C" fn jellyspire_raw_open(
     deadline: usize,
     values: &mut [u64; 3],
 ) -> u64
-    ensures { λ k. ⌜ Answered (OpensGiven (chipOf (wheelOf n s h p) (now (table .entry))) (now (table .entry)) (now (list .entry)) (now (path .entry)) len flow words deadline (now (table .exit)) (now (list .exit))) ofOpened k (now (values .entry)) (now (values .exit)) ⌝ }
+    ensures { λ k. ⌜ Answered (OpensGiven (chipOf (wheelOf n s h p) (now (table .entry))) (now (table .entry)) (now (list .entry)) (now (path .entry)) len flow
+        words deadline (now (table .exit)) (now (list .exit))) ofOpened k (now (values .entry)) (now (values .exit)) ⌝ }
 {
     let w = wheel_of(n, s, h, p);
     let channels = *path;
@@ -230,7 +232,8 @@ pub extern "C" fn jellyspire_raw_close(
     flow: usize,
     values: &mut [u64; 1],
 ) -> u64
-    ensures { λ k. ⌜ Answered (ClosesBytes (chipOf (wheelOf n s h p) (now (table .entry))) (now (table .entry)) (now (list .entry)) flow (now (table .exit)) (now (list .exit))) ofCleared k (now (values .entry)) (now (values .exit)) ⌝ }
+    ensures { λ k. ⌜ Answered (ClosesBytes (chipOf (wheelOf n s h p) (now (table .entry))) (now (table .entry)) (now (list .entry)) flow
+        (now (table .exit)) (now (list .exit))) ofCleared k (now (values .entry)) (now (values .exit)) ⌝ }
 {
     let w = wheel_of(n, s, h, p);
     tell_cleared(bytes_calls::close(table, list, w, flow), values)
