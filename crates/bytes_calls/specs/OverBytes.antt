@@ -23,7 +23,7 @@ use Rattle.rules.specs.Paths.{Chip, free_slots}
 use Rattle.rules.specs.Flows.{flow}
 use Rattle.rules.specs.Numbers.{Passes}
 use Rattle.rules.specs.Orders.{Agrees, checked, order_of, opening, closing}
-use Rattle.rules.specs.Promises.{Grants, closed_record, open_record, change, Told, Performs, of_opened_lem, of_cleared_lem, Reports}
+use Rattle.rules.specs.Promises.{Grants, closed_record, open_record, change, Told, Performs, of_opened, of_cleared, Reports}
 use Rattle.laws.specs.Logic.{not_both}
 use Rattle.laws.specs.Refusals.{passes_front}
 use Rattle.laws.specs.Sets.{within_below, below_shift, below_small}
@@ -32,7 +32,7 @@ use Rattle.ledger.specs.Claims.{free_below}
 use Rattle.ledger.specs.Lines.{checked_ready, saw}
 use Rattle.ledger.specs.Calls.{to_opened, to_cleared}
 use Rattle.agree.specs.declared.Checked.{Checked}
-use Rattle.agree.specs.Checks.{Steps, Checks, checks-more}
+use Rattle.agree.specs.Checks.{Steps, Checks, checks_more}
 use Rattle.decide.specs.Decisions.{Settles, Decides}
 use Rattle.perform.specs.declared.Decision.{Decision}
 use Rattle.changes.specs.Changes.{change_of}
@@ -70,10 +70,10 @@ module _ (chip : Chip) (t b : List ℕ) where
 
   -- opening and closing are its cases
   abbrev pub OpensBytes : List ℕ → ℕ → ℕ → Demand → List ℕ → List ℕ → Opened → Type 0
-  OpensBytes path m f d t' b' a = PerformsBytes (opening path m f d) t' b' (of_opened_lem a)
+  OpensBytes path m f d t' b' a = PerformsBytes (opening path m f d) t' b' (of_opened a)
 
   abbrev pub ClosesBytes : ℕ → List ℕ → List ℕ → Cleared → Type 0
-  ClosesBytes f t' b' a = PerformsBytes (closing f) t' b' (of_cleared_lem a)
+  ClosesBytes f t' b' a = PerformsBytes (closing f) t' b' (of_cleared a)
 
 -- ---- what is stored fits a record's bytes
 
@@ -199,7 +199,7 @@ module _ (chip : Chip) (t b : List ℕ) (n : ℕ) (n-is : n ≡ count_of b) wher
   pub checks_next : (f : ℕ) (c d : Checked) (r : Record) → f < n → r ≡ decoded b (64 * f) → Checks chip t n (list_in b) f c → Steps chip t f r c d
       → Checks chip t n (list_in b) (f + 1) d
   checks_next f c d r h e k s =
-      checks-more chip t n (list_in b) f c d h k (subst (λ x. Steps chip t f x c d) (e ∙ sym (flow_decoded b f (omega arith))) s)
+      checks_more chip t n (list_in b) f c d h k (subst (λ x. Steps chip t f x c d) (e ∙ sym (flow_decoded b f (omega arith))) s)
 
   pub checks_counted : (c : Checked) → Checks chip t n (list_in b) n c → Checks chip t (count_of b) (list_in b) (count_of b) c
   checks_counted c k = subst (λ m. Checks chip t m (list_in b) m c) n-is k

@@ -32,14 +32,14 @@ abbrev pub of_selected : Selected → Said
 of_selected (selected.Chosen g) = values (grant_values g)
 of_selected (selected.Refused q) = refusal q
 
-abbrev pub of_opened_lem : Opened → Said
-of_opened_lem (opened.Granted g) = values (grant_values g)
-of_opened_lem (opened.Refused q) = refusal q
+abbrev pub of_opened : Opened → Said
+of_opened (opened.Granted g) = values (grant_values g)
+of_opened (opened.Refused q) = refusal q
 
 -- how many cells were cleared
-abbrev pub of_cleared_lem : Cleared → Said
-of_cleared_lem (cleared.Cells k) = values (k ∷ [])
-of_cleared_lem (cleared.Refused q) = refusal q
+abbrev pub of_cleared : Cleared → Said
+of_cleared (cleared.Cells k) = values (k ∷ [])
+of_cleared (cleared.Refused q) = refusal q
 
 -- free, held
 abbrev pub of_reported : Reported → Said

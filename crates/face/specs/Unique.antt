@@ -25,7 +25,7 @@ use Rattle.ledger.specs.Stamps.{stamped_unique}
 use Rattle.ledger.specs.Calls.{Settled, closes_unique, reports_unique}
 use Rattle.bytes_list.specs.Layout.{count_of, list_in, asks, Written}
 use Rattle.bytes_calls.specs.OverBytes.{Leaves, ReportsBytes, ClosesBytes}
-use Rattle.face.specs.Told.{Said, values, refusal, Told, of_selected, of_opened_lem, of_cleared_lem, of_reported, Answered}
+use Rattle.face.specs.Told.{Said, values, refusal, Told, of_selected, of_opened, of_cleared, of_reported, Answered}
 use Rattle.face.specs.Calls.{Agreeing, OpensGiven, Rowing}
 
 -- ---- bytes of a list with one record written
@@ -114,17 +114,17 @@ module _ (k l : ℕ) (v v₁ v₂ : List ℕ) where
       unfolding Closes
       closed f x y p q = closes_unique chip t (count_of b) (list_in b) f t₁ t₂ (list_in b₁) (list_in b₂) x y p.answers q.answers
 
-      pub close_unique : (f : ℕ) → Answered (ClosesBytes chip t b f t₁ b₁) of_cleared_lem k v v₁ → Answered (ClosesBytes chip t b f t₂ b₂) of_cleared_lem l v v₂
+      pub close_unique : (f : ℕ) → Answered (ClosesBytes chip t b f t₁ b₁) of_cleared k v v₁ → Answered (ClosesBytes chip t b f t₂ b₂) of_cleared l v v₂
           → SameBytes k l v₁ v₂ t₁ t₂ b₁ b₂
       close_unique f p q =
           let s = closed f p.answer q.answer p.promised q.promised in
           record {
             told =
-                answered_unique (ClosesBytes chip t b f t₁ b₁) (ClosesBytes chip t b f t₂ b₂) of_cleared_lem (λ x y c d. (closed f x y c d).answer) k l v v₁ v₂ p q;
+                answered_unique (ClosesBytes chip t b f t₁ b₁) (ClosesBytes chip t b f t₂ b₂) of_cleared (λ x y c d. (closed f x y c d).answer) k l v v₁ v₂ p q;
             table = s.table;
             list =
-                bytes_unique (closing f) (promises.of_cleared_lem p.answer) p.promised.bytes
-                (subst (λ a. Leaves chip t b (closing f) b₂ (promises.of_cleared_lem a)) (sym s.answer) q.promised.bytes);
+                bytes_unique (closing f) (promises.of_cleared p.answer) p.promised.bytes
+                (subst (λ a. Leaves chip t b (closing f) b₂ (promises.of_cleared a)) (sym s.answer) q.promised.bytes);
           }
 
       -- ---- opening
@@ -152,13 +152,13 @@ module _ (k l : ℕ) (v v₁ v₂ : List ℕ) where
           p.list ∙ sym q.list,
         )
 
-        pub open_unique : Answered (OpensGiven chip t b path m f W D t₁ b₁) of_opened_lem k v v₁ → Answered (OpensGiven chip t b path m f W D t₂ b₂) of_opened_lem l v v₂
+        pub open_unique : Answered (OpensGiven chip t b path m f W D t₁ b₁) of_opened k v v₁ → Answered (OpensGiven chip t b path m f W D t₂ b₂) of_opened l v v₂
             → SameBytes k l v₁ v₂ t₁ t₂ b₁ b₂
         open_unique p q =
             let (_, table, list) = opened_same p.answer q.answer p.promised q.promised in
             record {
               told =
-                  answered_unique (OpensGiven chip t b path m f W D t₁ b₁) (OpensGiven chip t b path m f W D t₂ b₂) of_opened_lem
+                  answered_unique (OpensGiven chip t b path m f W D t₁ b₁) (OpensGiven chip t b path m f W D t₂ b₂) of_opened
                   (λ x y c d. (opened_same x y c d).0) k l v v₁ v₂ p q;
               table = table;
               list = list;

@@ -20,7 +20,7 @@ use Rattle.rules.specs.Best.{Meets}
 use Rattle.rules.specs.Paths.{Chip, chip_of, travel, allowed, free_slots}
 use Rattle.rules.specs.Numbers.{Line, line, Refuses, Passes}
 use Rattle.rules.specs.Orders.{NoneDelivers, NoneMeets, room_lines, select_order, checked, path_lines, flow_lines, opening, closing, open_order}
-use Rattle.rules.specs.Promises.{Grants, Selects, of_opened_lem, of_cleared_lem, Reports, Row, open_record}
+use Rattle.rules.specs.Promises.{Grants, Selects, of_opened, of_cleared, Reports, Row, open_record}
 use Rattle.laws.specs.Logic.{le_or_lt}
 use Rattle.laws.specs.Bounds.{words_small}
 use Rattle.laws.specs.Gaps.{gap_most}
@@ -262,10 +262,10 @@ module _ (n s h p : ℕ) (v : Wheel) (asked : v ≡ wheel_of n (min s 65535) (mi
       performs_given call a q = performs_wheel n s h p t b call t' b' a (subst (λ w. PerformsBytes (chip_of w t) t b call t' b' a) asked q)
 
       pub close_given : (f : ℕ) (a : Cleared) → ClosesBytes (chip_of v t) t b f t' b' a → ClosesBytes (chip_of (wheel_of n s h p) t) t b f t' b' a
-      close_given f a q = performs_given (closing f) (of_cleared_lem a) q
+      close_given f a q = performs_given (closing f) (of_cleared a) q
 
       pub open_given : (path : List ℕ) (m f W D k l : ℕ) → k ≡ min W 65535 → l ≡ min D 65535 → (a : Opened)
           → OpensBytes (chip_of v t) t b path m f (asks k l) t' b' a → OpensGiven (chip_of (wheel_of n s h p) t) t b path m f W D t' b' a
       open_given path m f W D k l words deadline a q =
           opens_wide (chip_of (wheel_of n s h p) t) t b path m f W D t' b' a
-          (performs_given (opening path m f (asks (min W 65535) (min D 65535))) (of_opened_lem a) (rw (← words, ← deadline) q))
+          (performs_given (opening path m f (asks (min W 65535) (min D 65535))) (of_opened a) (rw (← words, ← deadline) q))

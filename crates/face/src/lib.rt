@@ -8,7 +8,7 @@ ghost use Rattle.rules.specs.Paths.{chip_of};
 ghost use Rattle.rules.specs.Numbers.{number};
 ghost use Rattle.rules.specs.Promises.{Selects};
 ghost use Rattle.bytes_calls.specs.OverBytes.{ReportsBytes, ClosesBytes};
-ghost use Rattle.face.specs.Told.{Told, of_selected, of_opened_lem, of_cleared_lem, of_reported, grant_values, Answered};
+ghost use Rattle.face.specs.Told.{Told, of_selected, of_opened, of_cleared, of_reported, grant_values, Answered};
 ghost use Rattle.face.specs.Calls.{wheel_of, Agreeing, OpensGiven, Rowing};
 
 use rules::{Cleared, Demand, Grant, Opened, Refusal, Reported, Selected, Wheel, Words};
@@ -85,7 +85,7 @@ fn tell_selected(a: Selected, values: &mut [u64; 3]) -> u64
 
 // The answer of an opening.
 fn tell_opened(a: Opened, values: &mut [u64; 3]) -> u64
-    ensures { Told (of_opened_lem a) result values.old values.new }
+    ensures { Told (of_opened a) result values.old values.new }
 {
     match a {
         Opened::Granted(g) => {
@@ -98,7 +98,7 @@ fn tell_opened(a: Opened, values: &mut [u64; 3]) -> u64
 
 // The answer of a closing: how many cells it cleared.
 fn tell_cleared(a: Cleared, values: &mut [u64; 1]) -> u64
-    ensures { Told (of_cleared_lem a) result values.old values.new }
+    ensures { Told (of_cleared a) result values.old values.new }
 {
     match a {
         Cleared::Cells(cells) => {
@@ -198,7 +198,7 @@ pub extern "C" fn jellyspire_raw_open(
     values: &mut [u64; 3],
 ) -> u64
     ensures { Answered (OpensGiven (chip_of (wheel_of n s h p) table.old) table.old list.old path.now len flow
-        words deadline table.new list.new) of_opened_lem result values.old values.new }
+        words deadline table.new list.new) of_opened result values.old values.new }
 {
     let w = wheel_of(n, s, h, p);
     let channels = *path;
@@ -225,7 +225,7 @@ pub extern "C" fn jellyspire_raw_close(
     values: &mut [u64; 1],
 ) -> u64
     ensures { Answered (ClosesBytes (chip_of (wheel_of n s h p) table.old) table.old list.old flow
-        table.new list.new) of_cleared_lem result values.old values.new }
+        table.new list.new) of_cleared result values.old values.new }
 {
     let w = wheel_of(n, s, h, p);
     tell_cleared(bytes_calls::close(table, list, w, flow), values)

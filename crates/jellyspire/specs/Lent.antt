@@ -20,7 +20,7 @@ use Rattle.rules.specs.Promises.{closed_record, Performs, Opens, Closes, Reports
 use Rattle.laws.specs.Logic.{le_or_lt}
 use Rattle.lent.specs.Lists.{record_at, replaced_if}
 use Rattle.agree.specs.declared.Checked.{Checked}
-use Rattle.agree.specs.Checks.{Steps, Checks, checks-given-up, checks-more, checks-all, settles}
+use Rattle.agree.specs.Checks.{Steps, Checks, checks_given_up, checks_more, checks_all, settles}
 use Rattle.ledger.specs.Totals.{used_cells}
 use Rattle.ledger.specs.Calls.{to_opened, to_cleared}
 use Rattle.perform.specs.declared.Decision.{Decision}
@@ -86,7 +86,7 @@ module _ (chip : Chip) (t : List ℕ) (n : ℕ) (list : List Record) (long : len
 
   pub step_on : (i : ℕ) (c d : Checked) (r o : Record) → Checks chip t n list i c → i < n → r ≡ record_at list i o → Steps chip t i r c d
       → Checks chip t n list (i + 1) d
-  step_on i c d r o k l e s = checks-more chip t n list i c d l k (subst (λ x. Steps chip t i x c d) (read_inside i r o l e) s)
+  step_on i c d r o k l e s = checks_more chip t n list i c d l k (subst (λ x. Steps chip t i x c d) (read_inside i r o l e) s)
 
   -- and is over where it was given up or no record is left
   pub step_over : (i : ℕ) (c : Checked) → Checks chip t n list i c → i ≤ n → ¬ ((c.ok ≡ true) × (i < n))
@@ -98,8 +98,8 @@ module _ (chip : Chip) (t : List ℕ) (n : ℕ) (list : List Record) (long : len
       last e (inr m) = absurd (h (e, m))
 
       go : (b : Bool) → c.ok ≡ b → Checks chip t n list n c
-      go true e = checks-all chip t n list i c (last e (le_or_lt n i)) k
-      go false e = checks-given-up chip t n list i n c e l k
+      go true e = checks_all chip t n list i c (last e (le_or_lt n i)) k
+      go false e = checks_given_up chip t n list i n c e l k
 
   -- ---- a call, from what was told of the whole list and done with one record
 

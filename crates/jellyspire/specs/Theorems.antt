@@ -17,7 +17,7 @@ use Rattle.rules.specs.declared.Answer.{Answer}
 use Rattle.rules.specs.declared.Reported.{Reported}
 use Rattle.rules.specs.Paths.{Chip, chip_of}
 use Rattle.rules.specs.Flows.{flow}
-use Rattle.rules.specs.Promises.{Performs, of_opened_lem, of_cleared_lem, Opens, Closes, Reports}
+use Rattle.rules.specs.Promises.{Performs, of_opened, of_cleared, Opens, Closes, Reports}
 use Rattle.rules.specs.Orders.{Agrees, opening, closing}
 use Rattle.laws.specs.Logic.{tells_unique}
 use Rattle.ledger.specs.Calls.{Settled, opens_unique, closes_unique, reports_unique, performs_long, performs_others, performs_keep, open_close}
@@ -48,12 +48,12 @@ module _ (w : Wheel) (t : List ℕ) (list : List Record) where
       → Opens chip t (length list) list path m f d t' list' a → ¬ (k ≡ f - 1) → flow list' k ≡ flow list k
   unfolding Opens
   open_others path m f d t' list' a k p other =
-      performs_others chip t (length list) list (opening path m f d) t' list' (of_opened_lem a) k p λ e. other (omega (arith, e))
+      performs_others chip t (length list) list (opening path m f d) t' list' (of_opened a) k p λ e. other (omega (arith, e))
 
   pub close_others : (f : ℕ) (t' : List ℕ) (list' : List Record) (a : Cleared) (k : ℕ)
       → Closes chip t (length list) list f t' list' a → ¬ (k ≡ f - 1) → flow list' k ≡ flow list k
   unfolding Closes
-  close_others f t' list' a k p other = performs_others chip t (length list) list (closing f) t' list' (of_cleared_lem a) k p λ e. other (omega (arith, e))
+  close_others f t' list' a k p other = performs_others chip t (length list) list (closing f) t' list' (of_cleared a) k p λ e. other (omega (arith, e))
 
   -- ---- where table and list agree, they do afterwards
 
@@ -70,12 +70,12 @@ module _ (w : Wheel) (t : List ℕ) (list : List Record) where
     pub open_keeps : (path : List ℕ) (m f : ℕ) (d : Demand) (t' : List ℕ) (list' : List Record) (a : Opened)
         → Opens chip t (length list) list path m f d t' list' a → Agrees (chip_of w t') t' (length list') list'
     unfolding Opens
-    open_keeps path m f d t' list' a p = carried (opening path m f d) t' list' (of_opened_lem a) p
+    open_keeps path m f d t' list' a p = carried (opening path m f d) t' list' (of_opened a) p
 
     pub close_keeps : (f : ℕ) (t' : List ℕ) (list' : List Record) (a : Cleared)
         → Closes chip t (length list) list f t' list' a → Agrees (chip_of w t') t' (length list') list'
     unfolding Closes
-    close_keeps f t' list' a p = carried (closing f) t' list' (of_cleared_lem a) p
+    close_keeps f t' list' a p = carried (closing f) t' list' (of_cleared a) p
 
     -- ---- open, then close: as many cells are cleared as were written, and table and list are as before. A record that is lent
     -- has the sixteen path entries of its type
@@ -85,7 +85,7 @@ module _ (w : Wheel) (t : List ℕ) (list : List Record) where
         → Closes (chip_of w t') t' (length list') list' f t'' list'' a → (a ≡ cleared.Cells (g.count * m)) × (t'' ≡ t) × (list'' ≡ list)
     unfolding Opens
     open_then_close path m f d g t' t'' list' list'' a sixteen p q =
-        let (long, many) = performs_long chip t (length list) list (opening path m f d) t' list' (of_opened_lem (opened.Granted g)) p in
+        let (long, many) = performs_long chip t (length list) list (opening path m f d) t' list' (of_opened (opened.Granted g)) p in
         open_close chip t (length list) list (le_refl (length list)) agrees path m f d g t' t'' list' list'' a sixteen p
         (subst (λ k. Closes (record { wheel = w; channels = k / 64 }) t' (length list) list' f t'' list'' a) long
         (subst (λ n. Closes (chip_of w t') t' n list' f t'' list'' a) many q))

@@ -28,7 +28,7 @@ use Rattle.rules.specs.Paths.{Chip, free_slots, Inside, trimmed}
 use Rattle.rules.specs.Flows.{none, flow, claiming, Blank, Own, Agree, cells_of}
 use Rattle.rules.specs.Numbers.{number, Passes}
 use Rattle.rules.specs.Orders.{Agrees, checked, path_lines, way_lines, flow_lines, state_lines, order_of, call_order, report_order, opening, closing}
-use Rattle.rules.specs.Promises.{HasRow, Row, change, Told, Marked, Performs, of_opened_lem, of_cleared_lem, Opens, Closes, Reports, open_record, closed_record}
+use Rattle.rules.specs.Promises.{HasRow, Row, change, Told, Marked, Performs, of_opened, of_cleared, Opens, Closes, Reports, open_record, closed_record}
 use Rattle.laws.specs.Decided.{tabled_decided, row_decided}
 use Rattle.laws.specs.Logic.{not_both}
 use Rattle.laws.specs.Refusals.{settled, passes_not, same_number, passed, passes_then, Alike, alike_then, alike_self, passes_alike, refuses_alike}
@@ -277,11 +277,11 @@ to_cleared (answer.Done (yes.Granted g)) = cleared.Refused BadWheel
 to_cleared (answer.Done (yes.Cells k)) = cleared.Cells k
 to_cleared (answer.Refused r) = cleared.Refused r
 
-back_opened : (a : Opened) → to_opened (of_opened_lem a) ≡ a
+back_opened : (a : Opened) → to_opened (of_opened a) ≡ a
 back_opened (opened.Granted g) = refl
 back_opened (opened.Refused r) = refl
 
-back_cleared : (a : Cleared) → to_cleared (of_cleared_lem a) ≡ a
+back_cleared : (a : Cleared) → to_cleared (of_cleared a) ≡ a
 back_cleared (cleared.Cells k) = refl
 back_cleared (cleared.Refused r) = refl
 
@@ -290,14 +290,14 @@ module _ (chip : Chip) (t : List ℕ) (n : ℕ) (list : List Record) where
       → Opens chip t n list path m f d u list₁ a → Opens chip t n list path m f d v list₂ b → Settled a b u v list₁ list₂
   unfolding Opens
   opens_unique path m f d u v list₁ list₂ a b p q =
-      let s = performs_unique chip t n list (opening path m f d) u v list₁ list₂ (of_opened_lem a) (of_opened_lem b) p q in
+      let s = performs_unique chip t n list (opening path m f d) u v list₁ list₂ (of_opened a) (of_opened b) p q in
       record { answer = sym (back_opened a) ∙ ap to_opened s.answer ∙ back_opened b; table = s.table; records = s.records }
 
   pub closes_unique : (f : ℕ) (u v : List ℕ) (list₁ list₂ : List Record) (a b : Cleared)
       → Closes chip t n list f u list₁ a → Closes chip t n list f v list₂ b → Settled a b u v list₁ list₂
   unfolding Closes
   closes_unique f u v list₁ list₂ a b p q =
-      let s = performs_unique chip t n list (closing f) u v list₁ list₂ (of_cleared_lem a) (of_cleared_lem b) p q in
+      let s = performs_unique chip t n list (closing f) u v list₁ list₂ (of_cleared a) (of_cleared b) p q in
       record { answer = sym (back_cleared a) ∙ ap to_cleared s.answer ∙ back_cleared b; table = s.table; records = s.records }
 
   pub open_close : n ≤ length list → Agrees chip t n list
@@ -306,5 +306,5 @@ module _ (chip : Chip) (t : List ℕ) (n : ℕ) (list : List Record) where
       → (a ≡ cleared.Cells (g.count * m)) × (t'' ≡ t) × (list'' ≡ list)
   unfolding Opens Closes
   open_close fits agrees path m f d g t' t'' list' list'' a long p q =
-      let s = close_undoes chip t n list fits agrees path m f d g t' t'' list' list'' (of_cleared_lem a) long p q in
+      let s = close_undoes chip t n list fits agrees path m f d g t' t'' list' list'' (of_cleared a) long p q in
       (sym (back_cleared a) ∙ ap to_cleared s.answer, s.table, s.records)

@@ -10,8 +10,8 @@ use Prim.Native.Nat.{ℕ, zero, suc, ◌+◌, ◌-◌, ◌*◌, ◌/◌, ◌≤�
 use native.Mathlib.Omega.{arith}
 use Rattle.std.proofs.Math.Nat.{mod-lt}
 use Rattle.rules.specs.Sets.{stretch}
-use Rattle.laws.specs.Counting.{stretch-stops}
-use Rattle.laws.specs.Reading.{flags, count, gain, next, next-case, lineWords}
+use Rattle.laws.specs.Counting.{stretch_stops}
+use Rattle.laws.specs.Reading.{flags, count, gain, next, next_case, line_words}
 use Rattle.laws.specs.Runs.{line}
 use Rattle.line.specs.declared.Task.{Task}
 use Rattle.line.specs.Values.{N, S, H, P, L, raised_parts, took, Pick, done, take, skip, slot_words, phase, worth, taking, greedy, greedy_attains}
@@ -67,7 +67,7 @@ fee_gain S H (suc r) h = omega arith
 room_next : (P r : ℕ) → r < P → (fee r ≡ 1) ⊎ ((fee r ≡ 0) × (suc (room P (next P r)) ≤ room P r))
 unfolding room fee
 room_next P zero h = inl refl
-room_next P (suc r) h = inr (refl, go (next-case P (suc r) h))
+room_next P (suc r) h = inr (refl, go (next_case P (suc r) h))
   where
     go : ((suc (suc r) ≡ P) × (next P (suc r) ≡ 0)) ⊎ ((suc (suc r) < P) × (next P (suc r) ≡ suc (suc r))) → suc (room P (next P (suc r))) ≤ P - suc r
     go (inl (a, b)) = rw b (omega arith)
@@ -79,8 +79,8 @@ room_most P zero h = omega arith
 room_most P (suc r) h = omega arith
 
 module _ (S H P : ℕ) (hs : H ≤ S) (p1 : 1 ≤ P) where
-  words_paid : (xs : List Bool) (r : ℕ) → lineWords S H P r xs + headers P r xs * H ≡ count xs * S
-  unfolding lineWords headers count
+  words_paid : (xs : List Bool) (r : ℕ) → line_words S H P r xs + headers P r xs * H ≡ count xs * S
+  unfolding line_words headers count
   words_paid [] r = omega arith
   words_paid (true ∷ xs) r = omega (arith, words_paid xs (next P r), fee_gain S H r hs)
   words_paid (false ∷ xs) r = words_paid xs 0
@@ -178,7 +178,7 @@ module _ (t : Task) (good : Sound t) where
   pub paid_run : (s f k v : ℕ) → 1 ≤ f → FreeRun t s 0 f → head t s 0 k ≡ suc v → Paid t f k v
   paid_run s f k v f1 run e =
       let i : 1 + (f - 1) ≡ 0 + f = omega arith in
-      let stop = stretch-stops (opens t s) (f - 1) 1 (N t - 1) (ap (opens t s) i ∙ run.stop) in
+      let stop = stretch_stops (opens t s) (f - 1) 1 (N t - 1) (ap (opens t s) i ∙ run.stop) in
       paid_more (omega (arith, leading_flags (opens t s) 1 (N t - 1))) (paid_head s k v e)
 
 -- with a limit of 1 only the full wheel will do

@@ -3,7 +3,7 @@
 -- whole, and every one after q is less.
 use Rattle.std.specs.Prelude.{◌≡◌, ◌⊎◌, ℕ, zero, suc, ◌+◌, ◌-◌, ◌≤◌, ◌<◌, max}
 use Rattle.std.proofs.Common.{ap, inl, inr, ⊎_elim, arith, add-zero, eq-or-lt_of_le}
-use Rattle.laws.specs.Logic.{le-or-lt}
+use Rattle.laws.specs.Logic.{le_or_lt}
 
 pub lt_of_ne : {a b : ℕ} → a ≤ b → (a ≡ b → ⊥) → a < b
 lt_of_ne {a} {b} h f = ⊎_elim (λ e. absurd (f e)) (λ l. l) (eq-or-lt_of_le h)
@@ -27,7 +27,7 @@ module _ {m e : ℕ → ℕ} {t J : ℕ} (c : Chain m e t J) where
 
   -- each part is at most its maximum
   pub part : (j : ℕ) → 1 ≤ j → j ≤ t → e j ≤ m j
-  part j a b = go (le-or-lt t j)
+  part j a b = go (le_or_lt t j)
     where
       go : (t ≤ j) ⊎ (j < t) → e j ≤ m j
       go (inr h) = omega (arith, c.step j a h)

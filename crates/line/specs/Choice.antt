@@ -11,7 +11,7 @@ use native.Mathlib.Omega.{arith}
 use Rattle.std.proofs.Math.Nat.{mod-eq_of_lt, mod_self, mul-le-mul_right}
 use Rattle.std.proofs.Math.Numerals.{add-one}
 use Rattle.std.proofs.lemmas.Bool.{lt-leb}
-use Rattle.laws.specs.Logic.{le-or-lt}
+use Rattle.laws.specs.Logic.{le_or_lt}
 use Rattle.laws.specs.Reading.{next}
 use Rattle.line.specs.declared.Task.{Task}
 use Rattle.line.specs.Values.{N, S, H, P, L, raised, slot_words, phase, worth, taking, skipping, greedy, greedy_take, greedy_skip, prefers, prefers_if}
@@ -173,7 +173,7 @@ module _ (t : Task) (good : Sound t) (s p k f : ℕ) (k1 : 1 ≤ k) (fr : FreeRu
 
   -- the run ends with the last packet
   ends : (f ≤ P t) ⊎ (k ≤ P t) → (opens t s (p + top) ≡ false) ⊎ (k ≡ top)
-  ends z = go z (le-or-lt f k)
+  ends z = go z (le_or_lt f k)
     where
       go : (f ≤ P t) ⊎ (k ≤ P t) → (f ≤ k) ⊎ (k < f) → (opens t s (p + top) ≡ false) ⊎ (k ≡ top)
       go z (inl a) =
@@ -238,7 +238,7 @@ module _ (t : Task) (good : Sound t) (s p k f : ℕ) (k1 : 1 ≤ k) (fr : FreeRu
         let q1 = z.low in
         let qt = z.high in
         run_of q q1 qt (λ i x y. (all i x y, omega (arith, all i x y, below i x (omega arith))))
-        ∙ ap (λ l. bits_run t s p q + bits_of t s (p + q) l) (went_stop t s p k q q1 (omega arith) (go (le-or-lt top q) q1 qt z.here (peak_next c v q z)))
+        ∙ ap (λ l. bits_run t s p q + bits_of t s (p + q) l) (went_stop t s p k q q1 (omega arith) (go (le_or_lt top q) q1 qt z.here (peak_next c v q z)))
         ∙ ap (λ d. bits_run t s p q + d) (bits_off t s (p + q) (greedy t (ahead t s (p + q + 1)) 2 0 (k - q)))
       where
         go : (top ≤ q) ⊎ (q < top) → 1 ≤ q → q ≤ top → pack_end t s p k q ≡ v → (q < top → mid t s p k (q + 1) < v)
@@ -282,7 +282,7 @@ module _ (t : Task) (s e k w : ℕ) (k1 : 1 ≤ k) (some : 0 < w) where
   gapped d = greedy t (ahead t s d) (d - e) 0 k
 
   near : (d : ℕ) → reach t s e d k ≡ w → (d ≤ e + L t) × (d + 1 < N t)
-  near d h = (go (le-or-lt d (e + L t)), end (le-or-lt (N t) (d + 1)))
+  near d h = (go (le_or_lt d (e + L t)), end (le_or_lt (N t) (d + 1)))
     where
       go : (d ≤ e + L t) ⊎ (e + L t < d) → d ≤ e + L t
       go (inl a) = a

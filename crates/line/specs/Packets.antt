@@ -12,9 +12,9 @@ use Rattle.std.proofs.Math.Numerals.{add-one}
 use Rattle.std.proofs.Math.ListN.{length}
 use borrow.Author.Tests.{lt-ltb, le-ltb, lt-leb}
 use Rattle.rules.specs.Wheels.{chosen}
-use Rattle.laws.specs.Logic.{not-both, le-or-lt}
+use Rattle.laws.specs.Logic.{not_both, le_or_lt}
 use Rattle.laws.specs.Reading.{flags, gain, next}
-use Rattle.laws.specs.Bounds.{gain-most}
+use Rattle.laws.specs.Bounds.{gain_most}
 use Rattle.line.specs.declared.Task.{Task}
 use Rattle.line.specs.Values.{N, S, H, P, L, or_none, raised, took, at_end, slot_words, phase, worth, worth_cons, worth_most, taking, skipping, took_most, or_none_most}
 
@@ -53,7 +53,7 @@ raised_mono a (suc x) zero h = absurd (omega arith)
 raised_mono a (suc x) (suc y) h = omega arith
 
 raised_max : (a x y : ℕ) → raised a (max x y) ≡ max (raised a x) (raised a y)
-raised_max a x y = go (le-or-lt x y)
+raised_max a x y = go (le_or_lt x y)
   where
     go : (x ≤ y) ⊎ (y < x) → raised a (max x y) ≡ max (raised a x) (raised a y)
     go (inl h) = rw (max-eq_right {n = x} {m = y} h) (omega (arith, raised_mono a x y h))
@@ -68,12 +68,12 @@ pub took_some : (f : Bool) (k a v : ℕ) → f ≡ true → 1 ≤ k → took f k
 unfolding took
 took_some true (suc k) a v e h = refl
 took_some true zero a v e h = absurd (omega arith)
-took_some false k a v e h = absurd (not-both e refl)
+took_some false k a v e h = absurd (not_both e refl)
 
 pub took_shut : (f : Bool) (k a v : ℕ) → f ≡ false → took f k a v ≡ 0
 unfolding took
 took_shut false k a v e = refl
-took_shut true k a v e = absurd (not-both refl e)
+took_shut true k a v e = absurd (not_both refl e)
 
 pub took_zero : (f : Bool) (k a v : ℕ) → k ≡ 0 → took f k a v ≡ 0
 unfolding took
@@ -89,7 +89,7 @@ or_none_zero false v e = refl
 or_none_false : (b : Bool) (v : ℕ) → b ≡ false → or_none b v ≡ 0
 unfolding or_none
 or_none_false false v e = refl
-or_none_false true v e = absurd (not-both refl e)
+or_none_false true v e = absurd (not_both refl e)
 
 module _ (t : Task) where
   worth_nil : (g r k : ℕ) → worth t [] g r (suc k) ≡ 0
@@ -181,7 +181,7 @@ module _ (t : Task) (s : ℕ) where
   -- past the last open slot nothing is left
   pub reach_end : (e p k : ℕ) → N t ≤ p + 1 → 1 ≤ k → reach e p k ≡ 0
   unfolding reach head
-  reach_end e p k h m = skip_zero (ahead p) (p - suc e) k (go (le-or-lt (N t) p))
+  reach_end e p k h m = skip_zero (ahead p) (p - suc e) k (go (le_or_lt (N t) p))
     where
       go : (N t ≤ p) ⊎ (p < N t) → worth t (ahead p) (suc (p - suc e)) 0 k ≡ 0
       go (inl a) = worth_none p _ 0 k a m
@@ -199,7 +199,7 @@ module _ (t : Task) (s : ℕ) where
   worth_done [] g r =
       let q : g + 0 ≡ g = omega arith in
       rw q
-  worth_done (f ∷ fs) g r = go (le-or-lt (L t) g) (worth_done fs (suc g) 0)
+  worth_done (f ∷ fs) g r = go (le_or_lt (L t) g) (worth_done fs (suc g) 0)
     where
       go : (L t ≤ g) ⊎ (g < L t) → worth t fs (suc g) 0 0 ≡ or_none (leb (suc g + length fs) (L t)) 1
           → max (took f 0 (slot_words t r) (worth t fs 1 (phase t r) 0))
@@ -213,7 +213,7 @@ module _ (t : Task) (s : ℕ) where
 
   pub tail_done : (e : ℕ) → e + 2 ≤ N t → tail e 0 ≡ or_none (leb (N t - e) (L t)) 1
   unfolding tail
-  tail_done e h = go (le-or-lt (L t) 1)
+  tail_done e h = go (le_or_lt (L t) 1)
     where
       go : (L t ≤ 1) ⊎ (1 < L t) → skipping t (ahead (e + 2)) 1 0 ≡ or_none (leb (N t - e) (L t)) 1
       go (inl a) = skip_none t (ahead (e + 2)) 1 0 a ∙ sym (or_none_false (leb (N t - e) (L t)) 1 (lt-leb (N t - e) (L t) (omega arith)))
@@ -227,7 +227,7 @@ module _ (t : Task) (s : ℕ) where
   worth_gap [] g zero h m = absurd (omega arith)
   worth_gap [] g (suc k) h m = worth_nil t g 0 k ∙ sym (worth_nil t (suc g) 0 k)
   worth_gap (f ∷ fs) g k h m =
-      ap (λ v. max (took f k (slot_words t 0) (worth t fs 1 (phase t 0) (pred k))) v) (go (le-or-lt (L t) (suc g)) fs h (λ a. worth_gap fs (suc g) k a m))
+      ap (λ v. max (took f k (slot_words t 0) (worth t fs 1 (phase t 0) (pred k))) v) (go (le_or_lt (L t) (suc g)) fs h (λ a. worth_gap fs (suc g) k a m))
     where
       go : (L t ≤ suc g) ⊎ (suc g < L t) → (fs : List Bool) → g + length (f ∷ fs) ≤ L t
           → (suc g + length fs ≤ L t → worth t fs (suc g) 0 k ≡ worth t fs (suc (suc g)) 0 k)
@@ -311,7 +311,7 @@ module _ (t : Task) (s : ℕ) where
   unfolding head taking
   head_most p k =
       took_most (S t) (opens t s p) k (slot_words t 0) (worth t (ahead (p + 1)) 1 (phase t 0) (pred k))
-      (gain-most (S t) (H t) 0) (worth_most t (ahead (p + 1)) 1 (phase t 0) (pred k))
+      (gain_most (S t) (H t) 0) (worth_most t (ahead (p + 1)) 1 (phase t 0) (pred k))
 
   pub tail_most : (e k : ℕ) → tail e k ≤ suc (k * S t)
   unfolding tail skipping

@@ -2,7 +2,7 @@
 -- there into the set, so that the set and what is left add up to the greedy choice at every step.
 use Rattle.std.specs.Prelude.{◌≡◌, refl, Bool, true, false, List, ◌⊎◌, ℕ, zero, suc, ◌+◌, ◌-◌, ◌*◌, ◌%◌, ◌^◌, ◌≤◌, ◌<◌, min, get_or}
 use Rattle.std.proofs.Common.{sym, ap, ◌∙◌, subst, inl, inr, arith, add-zero}
-use Rattle.laws.specs.Logic.{le-or-lt}
+use Rattle.laws.specs.Logic.{le_or_lt}
 use Rattle.line.specs.declared.Task.{Task}
 use Rattle.line.specs.Values.{N, S, P, raised, greedy}
 use Rattle.line.specs.Packets.{ahead, opens, opens_last, packet_words, head, tail, mid, mid_first, head_shut, head_most, tail_most}
@@ -190,7 +190,7 @@ module _ (t : Task) (good : Sound t) (s K : ℕ) (hd tl : List ℕ) (p k f v : �
       tail_w = sym (ew ∙ z.solved.tails.at (p + q - 1) (k - q) (omega arith) (omega (arith, l.high, q1, z.within)) (omega (arith, z.kk)))
 
       missed : (x : ℕ) → p + q - 1 + 2 ≤ x → x < r → head t s x (k - q) ≡ w → ⊥
-      missed x a b e = go (le-or-lt (N t) (x + 1))
+      missed x a b e = go (le_or_lt (N t) (x + 1))
         where
           go : (N t ≤ x + 1) ⊎ (x + 1 < N t) → ⊥
           go (inl c) = omega (arith, head_shut t s x (k - q) (opens_last t s x c), some_w)
@@ -277,7 +277,7 @@ run_end t s d m i h =
 
 -- one standing more at which A holds, going down and going up
 pub above_more : (A : ℕ → Type 0) (q m : ℕ) → 0 < q → A q → ((j : ℕ) → q < j → j ≤ m → A j) → (j : ℕ) → q - 1 < j → j ≤ m → A j
-above_more A q m h a f j l r = go (le-or-lt j q)
+above_more A q m h a f j l r = go (le_or_lt j q)
   where
     go : (j ≤ q) ⊎ (q < j) → A j
     go (inl e) =
@@ -286,7 +286,7 @@ above_more A q m h a f j l r = go (le-or-lt j q)
     go (inr e) = f j e r
 
 pub between_more : (A : ℕ → Type 0) (from p : ℕ) → ((x : ℕ) → from ≤ x → x < p → A x) → A p → (x : ℕ) → from ≤ x → x < p + 1 → A x
-between_more A from p f a x l r = go (le-or-lt p x)
+between_more A from p f a x l r = go (le_or_lt p x)
   where
     go : (p ≤ x) ⊎ (x < p) → A x
     go (inl e) =

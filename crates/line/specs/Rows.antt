@@ -7,7 +7,7 @@ use Rattle.std.proofs.Common.{ap, ap₂, ◌∙◌, subst, inl, inr, ⊎_elim, a
 use Prim.Native.Nat.{ℕ, zero, suc, ◌+◌, ◌-◌, ◌*◌, ◌≤◌, ◌<◌, max, min}
 use native.Mathlib.Omega.{arith}
 use Rattle.std.proofs.Math.Nat.{max_comm}
-use Rattle.laws.specs.Logic.{le-or-lt}
+use Rattle.laws.specs.Logic.{le_or_lt}
 use Rattle.line.specs.declared.Task.{Task}
 use Rattle.line.specs.Values.{N, S, P, L, or_none, raised, raised_none}
 use Rattle.line.specs.Packets.{packet_words, opens, opens_last, head, tail, head_most, tail_most, tail_done, tail_far, head_shut, head_zero}
@@ -63,7 +63,7 @@ pub filled_again : (old mid new : List ℕ) (base j q : ℕ) (d e g : ℕ → �
     → Filled mid new (base + q) (j - q) e → ((i : ℕ) → i < q → d i ≡ g i) → ((i : ℕ) → i < j - q → e i ≡ g (q + i)) → Filled old new base j g
 filled_again old mid new base j q d e g h a b low high =
     record {
-      row = λ i l. row i l (le-or-lt q i);
+      row = λ i l. row i l (le_or_lt q i);
       below = λ i l. b.below i (omega arith) ∙ a.below i l;
       above = λ i l. b.above i (omega arith) ∙ a.above i l;
       long = b.long ∙ a.long;
@@ -222,7 +222,7 @@ packets_more t cap p q w tl old mid new q1 qc e a b =
 module _ (t : Task) (good : Sound t) (s K p f k : ℕ) (tl : List ℕ) (fn : p + f < N t) (kk : k ≤ K) (ts : Tails t s K p tl) (run : FreeRun t s p f) where
   head_ends : (f ≤ P t) ⊎ (k ≤ P t) → pack_most t tl p k 1 (min (P t) (min f k)) ≡ head t s p k
   unfolding pack_most
-  head_ends z = go (le-or-lt 1 f) (le-or-lt 1 k)
+  head_ends z = go (le_or_lt 1 f) (le_or_lt 1 k)
     where
       go : (1 ≤ f) ⊎ (f < 1) → (1 ≤ k) ⊎ (k < 1) → pack_most t tl p k 1 (min (P t) (min f k)) ≡ head t s p k
       go (inl a) (inl b) = sym (head_short t good s K p k f tl kk b ts run a fn z)
@@ -235,7 +235,7 @@ module _ (t : Task) (good : Sound t) (s K p f k : ℕ) (tl : List ℕ) (fn : p +
 
   head_goes_on : (hd : List ℕ) → Heads t s K (p + 1) hd → P t < f → P t ≤ k
       → max (pack_most t tl p k 1 (min (P t) (min f k))) (raised (packet_words t (P t)) (entry hd (p + P t) (k - P t))) ≡ head t s p k
-  head_goes_on hd hs a b = go (le-or-lt k (P t))
+  head_goes_on hd hs a b = go (le_or_lt k (P t))
     where
       go : (k ≤ P t) ⊎ (P t < k)
           → max (pack_most t tl p k 1 (min (P t) (min f k))) (raised (packet_words t (P t)) (entry hd (p + P t) (k - P t))) ≡ head t s p k

@@ -8,7 +8,7 @@ use Prim.Native.Nat.{ℕ, zero, suc, ◌+◌, ◌-◌, ◌*◌, ◌≤◌, ◌<�
 use native.Mathlib.Omega.{arith}
 use Rattle.rules.specs.Sets.{Below}
 use Rattle.rules.specs.Wheels.{Legal}
-use Rattle.laws.specs.Logic.{le-or-lt}
+use Rattle.laws.specs.Logic.{le_or_lt}
 use Rattle.line.specs.declared.Task.{Task}
 use Rattle.line.specs.Values.{N, P, L, raised}
 use Rattle.line.specs.Packets.{packet_words, opens, head, tail, reach, reach_first, reach_step, reach_cut, reach_end, mid, mid_first, mid_step, mid_stop, mid_full}
@@ -67,7 +67,7 @@ most_none tb k p end h =
 module _ (t : Task) (s K e k : ℕ) (hd : List ℕ) (k1 : 1 ≤ k) (kk : k ≤ K) (hs : Heads t s K (e + 1) hd) where
   reach_most : (m p : ℕ) → e < p → p + m ≡ min (e + L t + 1) (N t - 1) → reach t s e p k ≡ most_of hd k p m
   unfolding most_of
-  reach_most zero p a c = go (le-or-lt p (e + L t))
+  reach_most zero p a c = go (le_or_lt p (e + L t))
     where
       go : (p ≤ e + L t) ⊎ (e + L t < p) → reach t s e p k ≡ 0
       go (inl b) = reach_end t s e p k (omega arith) k1
@@ -78,12 +78,12 @@ module _ (t : Task) (s K e k : ℕ) (hd : List ℕ) (k1 : 1 ≤ k) (kk : k ≤ K
 
   pub tail_window : e + 2 ≤ N t → 1 ≤ L t → tail t s e k ≡ most_of hd k (e + 2) (min (e + L t + 1) (N t - 1) - (e + 2))
   unfolding most_of
-  tail_window h l1 = reach_first t s e k ∙ go (le-or-lt (e + 2) (min (e + L t + 1) (N t - 1)))
+  tail_window h l1 = reach_first t s e k ∙ go (le_or_lt (e + 2) (min (e + L t + 1) (N t - 1)))
     where
       go : (e + 2 ≤ min (e + L t + 1) (N t - 1)) ⊎ (min (e + L t + 1) (N t - 1) < e + 2)
           → reach t s e (e + 2) k ≡ most_of hd k (e + 2) (min (e + L t + 1) (N t - 1) - (e + 2))
       go (inl b) = reach_most (min (e + L t + 1) (N t - 1) - (e + 2)) (e + 2) (omega arith) (omega arith)
-      go (inr b) = far (le-or-lt (e + 2) (e + L t)) ∙ sym (most_none hd k (e + 2) (min (e + L t + 1) (N t - 1)) (omega arith))
+      go (inr b) = far (le_or_lt (e + 2) (e + L t)) ∙ sym (most_none hd k (e + 2) (min (e + L t + 1) (N t - 1)) (omega arith))
         where
           far : (e + 2 ≤ e + L t) ⊎ (e + L t < e + 2) → reach t s e (e + 2) k ≡ 0
           far (inl c) = reach_end t s e (e + 2) k (omega arith) k1
@@ -160,7 +160,7 @@ module _ (t : Task) (good : Sound t) (s K p k f : ℕ) (tl : List ℕ) (kk : k �
 
   -- the run ends with this packet
   pub head_short : (f ≤ P t) ⊎ (k ≤ P t) → head t s p k ≡ pack_most t tl p k 1 top
-  head_short z = omega (arith, head_is 0 (ends z (le-or-lt f k)))
+  head_short z = omega (arith, head_is 0 (ends z (le_or_lt f k)))
     where
       ends : (f ≤ P t) ⊎ (k ≤ P t) → (f ≤ k) ⊎ (k < f) → mid t s p k top ≡ max (raised (packet_words t top) (tail t s (p + top - 1) (k - top))) 0
       ends z (inl a) =

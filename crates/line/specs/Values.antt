@@ -9,10 +9,10 @@ use mathlib.Core.List.{List, [], ◌∷◌}
 use Prim.Native.Nat.{ℕ, zero, suc, pred, ◌+◌, ◌*◌, ◌≤◌, ◌<◌, max}
 use native.Mathlib.Omega.{arith}
 use Rattle.std.proofs.Math.ListN.{length}
-use Rattle.laws.specs.Logic.{not-both}
-use Rattle.laws.specs.Reading.{count, gain, next, lineWords}
+use Rattle.laws.specs.Logic.{not_both}
+use Rattle.laws.specs.Reading.{count, gain, next, line_words}
 use Rattle.laws.specs.Runs.{line}
-use Rattle.laws.specs.Bounds.{gain-most}
+use Rattle.laws.specs.Bounds.{gain_most}
 use Rattle.line.specs.declared.Task.{Task}
 
 -- the numbers of a task, by their letters
@@ -97,7 +97,7 @@ prefers (suc a) b = leb b (suc a)
 
 prefers_yes : (a b : ℕ) → prefers a b ≡ true → (0 < a) × (b ≤ a)
 unfolding prefers
-prefers_yes zero b e = absurd (not-both e refl)
+prefers_yes zero b e = absurd (not_both e refl)
 prefers_yes (suc a) b e = (omega arith, leb-true b (suc a) e)
 
 pub prefers_if : (a b : ℕ) → 0 < a → b ≤ a → prefers a b ≡ true
@@ -171,7 +171,7 @@ module _ (t : Task) where
 
   -- no choice is worth more
   pub worth_bounds : {g : ℕ} {fs xs : List Bool} (r : ℕ) → Pick (L t) g fs xs → suc (line t.wheel r xs) ≤ worth fs g r (count xs)
-  unfolding worth lineWords count at_end took or_none
+  unfolding worth line_words count at_end took or_none
   worth_bounds {g} r (done h) = rw (le-leb g (L t) h) (omega arith)
   worth_bounds r (take {g = g} {fs = fs} {xs = xs} p) = omega (arith, raised_le (slot_words r) _ (worth_bounds (phase r) p))
   worth_bounds r (skip {g = g} h p) = rw (lt-ltb g (L t) h) (omega (arith, worth_bounds 0 p))
@@ -182,7 +182,7 @@ module _ (t : Task) where
   worth_most (f ∷ fs) g r k =
       omega (
         arith,
-        took_most (S t) f k (slot_words r) (worth fs 1 (phase r) (pred k)) (gain-most _ _ r) (worth_most fs 1 (phase r) (pred k)),
+        took_most (S t) f k (slot_words r) (worth fs 1 (phase r) (pred k)) (gain_most _ _ r) (worth_most fs 1 (phase r) (pred k)),
         or_none_most (ltb g (L t)) (worth fs (suc g) 0 k),
         worth_most fs (suc g) 0 k,
       )
@@ -225,7 +225,7 @@ module _ (t : Task) where
   take_step : (f : Bool) (fs : List Bool) (g r k v : ℕ) (xs : List Bool)
       → ((u : ℕ) → worth fs 1 (phase r) (pred k) ≡ suc u → Attains 1 fs (phase r) (pred k) u xs)
       → taking f fs r k ≡ suc v → Attains g (f ∷ fs) r k v (true ∷ xs)
-  unfolding taking took count lineWords
+  unfolding taking took count line_words
   take_step false fs g r k v xs ih m = absurd (omega arith)
   take_step true fs g r zero v xs ih m = absurd (omega arith)
   take_step true fs g r (suc k) v xs ih m =
@@ -236,14 +236,14 @@ module _ (t : Task) where
   skip_step : (f : Bool) (fs : List Bool) (g r k v : ℕ) (xs : List Bool)
       → (worth fs (suc g) 0 k ≡ suc v → Attains (suc g) fs 0 k v xs)
       → skipping fs g k ≡ suc v → Attains g (f ∷ fs) r k v (false ∷ xs)
-  unfolding skipping count lineWords
+  unfolding skipping count line_words
   skip_step f fs g r k v xs ih m =
       let (l, e) = or_none_parts (ltb g (L t)) (worth fs (suc g) 0 k) v m in
       let h = ih e in
       record { pick = skip (ltb-true g (L t) l) h.pick; ones = h.ones; value = h.value }
 
   pub greedy_attains : (fs : List Bool) (g r k v : ℕ) → worth fs g r k ≡ suc v → Attains g fs r k v (greedy fs g r k)
-  unfolding greedy worth count lineWords
+  unfolding greedy worth count line_words
   greedy_attains [] g r k v e =
       let (l, z, w) = at_end_parts (leb g (L t)) k v e in
       record { pick = done (leb-true g (L t) l); ones = sym z; value = sym w }
@@ -280,7 +280,7 @@ module _ (t : Task) where
 
   pub greedy_first : {g : ℕ} {fs ys : List Bool} (r : ℕ) → Pick (L t) g fs ys → suc (line t.wheel r ys) ≡ worth fs g r (count ys)
       → First (greedy fs g r (count ys)) ys
-  unfolding greedy count lineWords
+  unfolding greedy count line_words
   greedy_first r (done h) e = end
   greedy_first r (take {g = g} {fs = fs} {xs = xs} p) e =
       let (q, m) = take_best fs xs g r (worth_bounds (phase r) p) e in

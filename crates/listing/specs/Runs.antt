@@ -8,15 +8,15 @@ use Rattle.std.proofs.Math.ListN.{drop, drop_of_length-le}
 use Rattle.rules.specs.Sets.{all, list_of}
 use Rattle.rules.specs.Paths.{trimmed}
 use Rattle.rules.specs.Promises.{closed_record}
-use Rattle.bytes_list.specs.Layout.{numberAt, numbersAt, knownState, is_zero, formed, stateFrom, pathFrom, slotsFrom, recordFrom, decoded, records, listIn}
+use Rattle.bytes_list.specs.Layout.{number_at, numbers_at, known_state, is_zero, formed, state_from, path_from, slots_from, record_from, decoded, records, list_in}
 use Rattle.grammar.specs.Text.{lines, ascii}
-use Rattle.grammar.specs.Answers.{longText}
-use Rattle.grammar.specs.Writing.{written-take, written-drop}
+use Rattle.grammar.specs.Answers.{long_text}
+use Rattle.grammar.specs.Writing.{written_take, written_drop}
 use Rattle.reading.specs.declared.Span.{Span}
 use Rattle.reading.specs.Meaning.{Next}
 use Rattle.texts.specs.Puts.{Puts, puts_length}
 use Rattle.grammar.specs.Listing.{State, Step, Prints, end, next, start, Writes}
-use Rattle.answering.specs.Lines.{state, count-sixteen, Fed}
+use Rattle.answering.specs.Lines.{state, count_sixteen, Fed}
 
 -- an input that is not too long, the bytes of 16 records, and room for every listing
 pub record Room (input list out : List ℕ) : Type 0 where
@@ -86,9 +86,9 @@ module _ (input : List ℕ) (s₀ : State) (out₀ : List ℕ) (s : State) (from
       let text = t.text ++ (10 ∷ []) in
       let fits : at + length text ≤ length out = omega (arith, t.puts.place, t.fair, g.fair, g.long, t.inside, t.on) in
       let took : take place new ≡ take at out ++ text =
-      ap (λ n. take n new) t.puts.place ∙ ap (take (at + length text)) t.puts.out ∙ written-take out at text fits in
+      ap (λ n. take n new) t.puts.place ∙ ap (take (at + length text)) t.puts.out ∙ written_take out at text fits in
       let left : drop place new ≡ drop place out =
-      ap (λ n. drop n new) t.puts.place ∙ ap (drop (at + length text)) t.puts.out ∙ written-drop out at text fits
+      ap (λ n. drop n new) t.puts.place ∙ ap (drop (at + length text)) t.puts.out ∙ written_drop out at text fits
       ∙ ap (λ n. drop n out) (sym t.puts.place) in
       let past : at + length text ≡ place = sym t.puts.place in
       record {
@@ -131,10 +131,10 @@ zeros_at (suc n) zero = refl
 zeros_at (suc n) (suc k) = zeros_at n k
 
 zeros_record : (n at : ℕ) → decoded (zeros n) at ≡ closed_record
-unfolding decoded numberAt stateFrom formed knownState is_zero all pathFrom slotsFrom closed_record trimmed list_of
+unfolding decoded number_at state_from formed known_state is_zero all path_from slots_from closed_record trimmed list_of
 zeros_record n at =
-    let none : numbersAt (zeros n) at ≡ (λ j. 0) = λ i j. zeros_at n (at + 2 * j) i + 256 * zeros_at n (at + 2 * j + 1) i in
-    ap recordFrom none
+    let none : numbers_at (zeros n) at ≡ (λ j. 0) = λ i j. zeros_at n (at + 2 * j) i + 256 * zeros_at n (at + 2 * j + 1) i in
+    ap record_from none
 
 zeros_records : (n m i : ℕ) → records (zeros n) i m ≡ replicate m closed_record
 unfolding records
@@ -142,10 +142,10 @@ zeros_records n zero i = refl
 zeros_records n (suc m) i = rw (zeros_record n (64 * i), zeros_records n m (suc i))
 
 start_is : state (zeros 1024) (zeros 1024) ≡ start
-unfolding start listIn
+unfolding start list_in
 start_is =
-    let list : listIn (zeros 1024) ≡ replicate 16 closed_record =
-    ap (records (zeros 1024) 0) (count-sixteen (zeros 1024) refl) ∙ zeros_records 1024 16 0 in
+    let list : list_in (zeros 1024) ≡ replicate 16 closed_record =
+    ap (records (zeros 1024) 0) (count_sixteen (zeros 1024) refl) ∙ zeros_records 1024 16 0 in
     λ i. record { table = zeros 1024; list = list i }
 
 pub writes_nothing : (input old : List ℕ) → length old < 65536 → Writes input old old 0
@@ -157,15 +157,15 @@ writes_nothing input old h = record {
   rest = refl;
 }
 
-pub writes_long : (input old new : List ℕ) (r : ℕ) → 65536 ≤ length old → 4096 < length input → Puts old 0 longText new r → Writes input old new r
-unfolding longText ascii list_of
+pub writes_long : (input old new : List ℕ) (r : ℕ) → 65536 ≤ length old → 4096 < length input → Puts old 0 long_text new r → Writes input old new r
+unfolding long_text ascii list_of
 writes_long input old new r room long p =
-    let fits : 0 + length longText ≤ length old = omega arith in
-    let kept : length new ≡ length old = puts_length longText p fits in
-    let took : take r new ≡ longText =
-    ap (λ n. take n new) p.place ∙ ap (take (0 + length longText)) p.out ∙ written-take old 0 longText fits in
+    let fits : 0 + length long_text ≤ length old = omega arith in
+    let kept : length new ≡ length old = puts_length long_text p fits in
+    let took : take r new ≡ long_text =
+    ap (λ n. take n new) p.place ∙ ap (take (0 + length long_text)) p.out ∙ written_take old 0 long_text fits in
     let left : drop r new ≡ drop r old =
-    ap (λ n. drop n new) p.place ∙ ap (drop (0 + length longText)) p.out ∙ written-drop old 0 longText fits
+    ap (λ n. drop n new) p.place ∙ ap (drop (0 + length long_text)) p.out ∙ written_drop old 0 long_text fits
     ∙ ap (λ n. drop n old) (sym p.place) in
     record {
       short = λ l. absurd (omega arith);

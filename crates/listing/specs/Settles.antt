@@ -5,20 +5,20 @@ use Rattle.std.proofs.Common.{sym, ap, ◌∙◌, subst, inl, inr, take-append-d
 use Rattle.rules.specs.declared.Opened.{Opened}
 use Rattle.rules.specs.declared.Cleared.{Cleared}
 use Rattle.rules.specs.declared.Reported.{Reported}
-use Rattle.laws.specs.Logic.{le-or-lt}
-use Rattle.ledger.specs.Calls.{opens-unique, closes-unique, reports-unique}
+use Rattle.laws.specs.Logic.{le_or_lt}
+use Rattle.ledger.specs.Calls.{opens_unique, closes_unique, reports_unique}
 use Rattle.grammar.specs.Text.{lines}
 use Rattle.grammar.specs.Commands.{Command, opening, closing, reporting, Reads, Bad}
-use Rattle.grammar.specs.Answers.{openText, closeText, reportText, badText}
-use Rattle.grammar.specs.Spelling.{reads-once}
+use Rattle.grammar.specs.Answers.{open_text, close_text, report_text, bad_text}
+use Rattle.grammar.specs.Spelling.{reads_once}
 use Rattle.grammar.specs.Listing.{State, OpensFrom, ClosesFrom, ReportsFrom, Step, opens, closes, reports, bad, Prints, end, next, start, Lists, Writes}
 
 -- what was done for a command: the promise with its answer, and the answer's text
 Did : State → Command → State → List ℕ → Type 0
 Did s (opening f W D cs) u text =
-    (a : Opened) × OpensFrom s f W D cs u a × (text ≡ openText f a)
-Did s (closing f) u text = (a : Cleared) × ClosesFrom s f u a × (text ≡ closeText f a)
-Did s reporting u text = (a : Reported) × ReportsFrom s a × (u ≡ s) × (text ≡ reportText a)
+    (a : Opened) × OpensFrom s f W D cs u a × (text ≡ open_text f a)
+Did s (closing f) u text = (a : Cleared) × ClosesFrom s f u a × (text ≡ close_text f a)
+Did s reporting u text = (a : Reported) × ReportsFrom s a × (u ≡ s) × (text ≡ report_text a)
 
 -- a line is a command that was carried out, or it is bad
 record Carried (s : State) (line : List ℕ) (u : State) (text : List ℕ) : Type 0 where
@@ -29,7 +29,7 @@ record Carried (s : State) (line : List ℕ) (u : State) (text : List ℕ) : Typ
 record Passed (s : State) (k : ℕ) (line : List ℕ) (u : State) (text : List ℕ) : Type 0 where
   is_bad : Bad line
   stays : u ≡ s
-  says : text ≡ badText k
+  says : text ≡ bad_text k
 
 either : {s u : State} {k : ℕ} {line text : List ℕ} → Step s k line u text → Carried s line u text ⊎ Passed s k line u text
 unfolding Did
@@ -49,20 +49,20 @@ state_same s u p q = λ i. record { table = p i; list = q i }
 did_settled : (s : State) (c : Command) (u v : State) (a b : List ℕ) → Did s c u a → Did s c v b → Same u v a b
 unfolding Did
 did_settled s (opening f W D cs) u v a b p q =
-    let e = opens-unique _ _ _ _ _ _ _ _ _ _ _ _ p.0 q.0 p.1 q.1 in
-    record { state = state_same u v e.table e.records; words = p.2 ∙ ap (openText f) e.answer ∙ sym q.2 }
+    let e = opens_unique _ _ _ _ _ _ _ _ _ _ _ _ p.0 q.0 p.1 q.1 in
+    record { state = state_same u v e.table e.records; words = p.2 ∙ ap (open_text f) e.answer ∙ sym q.2 }
 did_settled s (closing f) u v a b p q =
-    let e = closes-unique _ _ _ _ _ _ _ _ _ p.0 q.0 p.1 q.1 in
-    record { state = state_same u v e.table e.records; words = p.2 ∙ ap (closeText f) e.answer ∙ sym q.2 }
+    let e = closes_unique _ _ _ _ _ _ _ _ _ p.0 q.0 p.1 q.1 in
+    record { state = state_same u v e.table e.records; words = p.2 ∙ ap (close_text f) e.answer ∙ sym q.2 }
 did_settled s reporting u v a b p q =
-    record { state = p.2 ∙ sym q.2; words = p.3 ∙ ap reportText (reports-unique _ _ _ _ p.0 q.0 p.1 q.1) ∙ sym q.3 }
+    record { state = p.2 ∙ sym q.2; words = p.3 ∙ ap report_text (reports_unique _ _ _ _ p.0 q.0 p.1 q.1) ∙ sym q.3 }
 
 step_settled : {s u v : State} {k : ℕ} {line a b : List ℕ} → Step s k line u a → Step s k line v b → Same u v a b
 step_settled {s} {u} {v} {k} {line} {a} {b} p q = go (either p) (either q)
   where
     go : Carried s line u a ⊎ Passed s k line u a → Carried s line v b ⊎ Passed s k line v b → Same u v a b
     go (inl c) (inl d) =
-        did_settled s c.command u v a b c.did (subst (λ x. Did s x v b) (reads-once d.command c.command d.reads c.reads) d.did)
+        did_settled s c.command u v a b c.did (subst (λ x. Did s x v b) (reads_once d.command c.command d.reads c.reads) d.did)
     go (inl c) (inr d) = absurd (d.is_bad.none c.command c.reads)
     go (inr c) (inl d) = absurd (c.is_bad.none d.command d.reads)
     go (inr c) (inr d) = record { state = c.stays ∙ sym d.stays; words = c.says ∙ sym d.says }
@@ -78,7 +78,7 @@ prints_settled (line ∷ ls) s k a b (next {s' = u} {text = t} {out = x} p ps) (
 
 -- two listings of one input are the same
 pub lists_unique : (input a b : List ℕ) → Lists input a → Lists input b → a ≡ b
-lists_unique input a b p q = go (le-or-lt (length input) 4096)
+lists_unique input a b p q = go (le_or_lt (length input) 4096)
   where
     go : (length input ≤ 4096) ⊎ (4096 < length input) → a ≡ b
     go (inl h) = prints_settled (lines input) start 1 a b (p.printed h) (q.printed h)
@@ -86,7 +86,7 @@ lists_unique input a b p q = go (le-or-lt (length input) 4096)
 
 -- and so are two buffers
 pub writes_unique : (input old new other : List ℕ) (r q : ℕ) → Writes input old new r → Writes input old other q → (r ≡ q) × (new ≡ other)
-writes_unique input old new other r q p w = go (le-or-lt 65536 (length old))
+writes_unique input old new other r q p w = go (le_or_lt 65536 (length old))
   where
     go : (65536 ≤ length old) ⊎ (length old < 65536) → (r ≡ q) × (new ≡ other)
     go (inl h) =

@@ -8,11 +8,11 @@ use Rattle.rules.specs.Sets.{has, Within, Below}
 use Rattle.rules.specs.Wheels.{Legal, chosen, size, full, words}
 use Rattle.rules.specs.Best.{Meets, Best, smallest_start}
 use Rattle.rules.specs.Promises.{Grants}
-use Rattle.laws.specs.Logic.{le-or-lt, not-both}
-use Rattle.laws.specs.Sets.{same_set, below-not, within-self, within-below}
-use Rattle.laws.specs.Turns.{chosen-below, start-both}
-use Rattle.laws.specs.Runs.{full-each}
-use Rattle.laws.specs.Gaps.{gap-most}
+use Rattle.laws.specs.Logic.{le_or_lt, not_both}
+use Rattle.laws.specs.Sets.{same_set, below_not, within_self, within_below}
+use Rattle.laws.specs.Turns.{chosen_below, start_both}
+use Rattle.laws.specs.Runs.{full_each}
+use Rattle.laws.specs.Gaps.{gap_most}
 use Rattle.line.specs.declared.Task.{Task}
 use Rattle.line.specs.Values.{N, L}
 use Rattle.line.specs.Tables.{Sound}
@@ -46,20 +46,20 @@ sound t limit el a two =
 
 module _ (w : Wheel) (free W L : ℕ) (a : Meetable w free W L) where
   full_same : (y : ℕ) → Within free y → full w.n free ≡ true → full w.n y ≡ true → free ≡ y
-  full_same y yin f g = same_set free y λ i. go i (le-or-lt w.n i)
+  full_same y yin f g = same_set free y λ i. go i (le_or_lt w.n i)
     where
       go : (i : ℕ) → (w.n ≤ i) ⊎ (i < w.n) → has free i ≡ has y i
-      go i (inl h) = below-not free w.n a.fit i h ∙ sym (below-not y w.n (within-below a.fit yin) i h)
+      go i (inl h) = below_not free w.n a.fit i h ∙ sym (below_not y w.n (within_below a.fit yin) i h)
       go i (inr h) =
-          sym (chosen-below w.n free i h) ∙ full-each w.n free a.legal.n1 f i
-          ∙ sym (full-each w.n y a.legal.n1 g i) ∙ chosen-below w.n y i h
+          sym (chosen_below w.n free i h) ∙ full_each w.n free a.legal.n1 f i
+          ∙ sym (full_each w.n y a.legal.n1 g i) ∙ chosen_below w.n y i h
 
   whole_grants : ((y : ℕ) → Within free y → Meets w W L y → full w.n y ≡ true)
       → (g : Grant) → g.slots ≡ free → g.count ≡ w.n → g.words.0 ≡ words w free → Grants w free W L g
   whole_grants only g es ec ew =
-      let all = only free (within-self free) a.meets in
+      let all = only free (within_self free) a.meets in
       record {
-        best = rw es (record { within = within-self free; meets = a.meets; best = λ y yin ym. inl (full_same y yin all (only y yin ym)) });
+        best = rw es (record { within = within_self free; meets = a.meets; best = λ y yin ym. inl (full_same y yin all (only y yin ym)) });
         count = ec ∙ sym (ap (size w.n) es ∙ size_full w.n free all);
         words = ew ∙ sym (ap (words w) es);
       }
@@ -72,15 +72,15 @@ module _ (w : Wheel) (free W L : ℕ) (a : Meetable w free W L) where
       go y ym true e = refl
       go y ym false e =
           let (st, k) = has_smallest w y e (omega (arith, ym.delivers, a.some)) in
-          let (on, off) = start-both w.n y (smallest_start w.n y) st in
+          let (on, off) = start_both w.n y (smallest_start w.n y) st in
           let same : smallest_start w.n y + (w.n - 1) ≡ smallest_start w.n y = omega arith in
-          absurd (not-both on (ap (chosen w.n y) (sym same) ∙ off))
+          absurd (not_both on (ap (chosen w.n y) (sym same) ∙ off))
 
 -- ---- an L above N restricts nothing
 
 module _ (w : Wheel) (n1 : 1 ≤ w.n) (free W L : ℕ) where
   clip : (x : ℕ) → Meets w W L x → Meets w W (min L w.n) x
-  clip x m = record { delivers = m.delivers; near = λ i k o. omega (arith, m.near i k o, gap-most w.n x n1 i) }
+  clip x m = record { delivers = m.delivers; near = λ i k o. omega (arith, m.near i k o, gap_most w.n x n1 i) }
 
   unclip : (x : ℕ) → Meets w W (min L w.n) x → Meets w W L x
   unclip x m = record { delivers = m.delivers; near = λ i k o. omega (arith, m.near i k o) }
@@ -108,7 +108,7 @@ module _ (t : Task) (limit : ℕ) (el : L t ≡ min limit (N t)) (a : Meetable t
           let u = smallest_start (N t) y in
           let (st, un) = has_smallest t.wheel y e (omega (arith, ym.delivers, good.some)) in
           let clipped = rw (← el) at (clip t.wheel good.legal.n1 t.free t.words.0 limit y ym) in
-          let few = size_less (N t) y u good.legal.n1 (start-both (N t) y u st).1 in
+          let few = size_less (N t) y u good.legal.n1 (start_both (N t) y u st).1 in
           absurd (omega (
             arith,
             rival_worth t good y u st yin clipped.near,

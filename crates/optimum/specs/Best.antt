@@ -9,9 +9,9 @@ use Prim.Native.Nat.{ℕ, suc, pred, ◌+◌, ◌-◌, ◌≤◌, ◌<◌}
 use Rattle.rules.specs.Sets.{Within, places}
 use Rattle.rules.specs.Wheels.{chosen, start, size, full, words, gap}
 use Rattle.rules.specs.Best.{Meets, Best, Better, fewer, more, sooner, closer, Before, smallest_start, distances}
-use Rattle.laws.specs.Logic.{le-or-lt, not-both}
-use Rattle.laws.specs.Sets.{within-below}
-use Rattle.laws.specs.Turns.{start-both}
+use Rattle.laws.specs.Logic.{le_or_lt, not_both}
+use Rattle.laws.specs.Sets.{within_below}
+use Rattle.laws.specs.Turns.{start_both}
 use Rattle.laws.specs.Reading.{count}
 use Rattle.laws.specs.Runs.{line, not_full}
 use Rattle.line.specs.declared.Task.{Task}
@@ -68,14 +68,14 @@ module _ (t : Task) (good : Sound t) (s k v : ℕ) (o : Optimum t s k v) where
 
   R-smallest : smallest_start (N t) R ≡ s
   R-smallest =
-      let not-all = not_full (N t) R good.legal.n1 (s + (N t - 1)) (start-both (N t) R s R-start).1 in
+      let not-all = not_full (N t) R good.legal.n1 (s + (N t - 1)) (start_both (N t) R s R-start).1 in
       let (st, h) = has_smallest t.wheel R not-all (omega (arith, R-words, o.enough, good.some)) in
-      go (le-or-lt s (smallest_start (N t) R)) (le-or-lt (smallest_start (N t) R) s) st h
+      go (le_or_lt s (smallest_start (N t) R)) (le_or_lt (smallest_start (N t) R) s) st h
     where
       go : (s ≤ smallest_start (N t) R) ⊎ (smallest_start (N t) R < s) → (smallest_start (N t) R ≤ s) ⊎ (s < smallest_start (N t) R)
           → start (N t) R (smallest_start (N t) R) ≡ true → smallest_start (N t) R < N t → smallest_start (N t) R ≡ s
       go (inl a) (inl b) st h = omega arith
-      go (inl a) (inr b) st h = absurd (not-both R-start (before_smallest (N t) R s b))
+      go (inl a) (inr b) st h = absurd (not_both R-start (before_smallest (N t) R s b))
       go (inr a) b st h =
           absurd (omega (
             arith,
@@ -101,7 +101,7 @@ module _ (t : Task) (good : Sound t) (s k v : ℕ) (o : Optimum t s k v) where
       (greedy_first t (phase t 0) (rival t good y s st yin ym.near)
       (ap suc wt ∙ sym rest_words.1 ∙ ap (λ j. worth t (ahead t s 1) 1 (phase t 0) j) (sym ct))) in
       ⊎_elim
-      (λ q. inl (same_from (N t) R y s good.legal.n1 (within-below good.fit R-within) (within-below good.fit yin) q))
+      (λ q. inl (same_from (N t) R y s good.legal.n1 (within_below good.fit R-within) (within_below good.fit yin) q))
       (λ b. inr (closer (R-size ∙ sym sk) (R-words ∙ sym wv) (R-smallest ∙ sym sm)
       (subst₂ (λ i j. Before (places (λ d. chosen (N t) R (i + d)) 0 (N t)) (places (λ d. chosen (N t) y (j + d)) 0 (N t))) (sym R-smallest) (sym sm) b)))
       (first_before (λ d. chosen (N t) R (s + d)) (λ d. chosen (N t) y (s + d)) (N t)
@@ -109,12 +109,12 @@ module _ (t : Task) (good : Sound t) (s k v : ℕ) (o : Optimum t s k v) where
       (ap count R-from ∙ ap suc (attains.ones ∙ sym ct) ∙ sym (ap count from-y)))
 
   beats : (y : ℕ) → Within t.free y → Meets t.wheel t.words.0 (L t) y → (b : Bool) → full (N t) y ≡ b → (R ≡ y) ⊎ Better t.wheel R y
-  beats y yin ym true e = inr (fewer (rw (size_full (N t) y e) (size_less (N t) R s good.legal.n1 (start-both (N t) R s R-start).1)))
+  beats y yin ym true e = inr (fewer (rw (size_full (N t) y e) (size_less (N t) R s good.legal.n1 (start_both (N t) R s R-start).1)))
   beats y yin ym false e =
       let (st, un) = has_smallest t.wheel y e (omega (arith, ym.delivers, good.some)) in
       go st un (rival_worth t good y (smallest_start (N t) y) st yin ym.near)
-      (le-or-lt k (size (N t) y)) (le-or-lt (size (N t) y) k) (le-or-lt v (words t.wheel y))
-      (le-or-lt s (smallest_start (N t) y)) (le-or-lt (smallest_start (N t) y) s)
+      (le_or_lt k (size (N t) y)) (le_or_lt (size (N t) y) k) (le_or_lt v (words t.wheel y))
+      (le_or_lt s (smallest_start (N t) y)) (le_or_lt (smallest_start (N t) y) s)
     where
       last : start (N t) y (smallest_start (N t) y) ≡ true → (s ≤ smallest_start (N t) y) ⊎ (smallest_start (N t) y < s)
           → (smallest_start (N t) y ≤ s) ⊎ (s < smallest_start (N t) y) → size (N t) y ≡ k → words t.wheel y ≡ v

@@ -8,9 +8,9 @@ use Rattle.std.proofs.Math.Logic.{inl, inr}
 use Prim.Native.Nat.{ℕ, zero, suc, ◌+◌, ◌-◌, ◌≤◌, ◌<◌}
 use Rattle.rules.specs.Sets.{stretch}
 use Rattle.rules.specs.Wheels.{chosen, gap}
-use Rattle.laws.specs.Logic.{not-both}
-use Rattle.laws.specs.Counting.{stretch-yes, stretch-no, stretch-fuel}
-use Rattle.laws.specs.Turns.{chosen-turn}
+use Rattle.laws.specs.Logic.{not_both}
+use Rattle.laws.specs.Counting.{stretch_yes, stretch_no, stretch_fuel}
+use Rattle.laws.specs.Turns.{chosen_turn}
 use Rattle.laws.specs.Reading.{flags}
 use Rattle.line.specs.Values.{Pick, done, take, skip}
 
@@ -32,8 +32,8 @@ module _ (N x L s : ℕ) (f : ℕ → Bool) (at : chosen N x s ≡ true) where
   gap_far : (d m : ℕ) → suc d + m ≡ N → gap N x (s + d) ≡ suc (stretch (clear N x) (s + suc d) m)
   unfolding gap
   gap_far d m e =
-      let closed : chosen N x (s + suc d + m) ≡ true = ap (chosen N x) (omega arith) ∙ chosen-turn N x s ∙ at in
-      ap suc (ap (λ i. stretch (clear N x) i (N - 1)) (sym (add-suc s d)) ∙ stretch-fuel (clear N x) m (s + suc d) (N - 1) (ap not closed) (omega arith))
+      let closed : chosen N x (s + suc d + m) ≡ true = ap (chosen N x) (omega arith) ∙ chosen_turn N x s ∙ at in
+      ap suc (ap (λ i. stretch (clear N x) i (N - 1)) (sym (add-suc s d)) ∙ stretch_fuel (clear N x) m (s + suc d) (N - 1) (ap not closed) (omega arith))
 
   -- m positions from d on, the last chosen slot being g back
   pub pick_of : ((i : ℕ) → chosen N x i ≡ true → gap N x i ≤ L) → ((d : ℕ) → d < N → far d ≡ true → f d ≡ true)
@@ -48,9 +48,9 @@ module _ (N x L s : ℕ) (f : ℕ → Bool) (at : chosen N x s ≡ true) where
           → (suc g + stretch (clear N x) (s + suc d) m ≤ L → Pick L (suc g) (flags f (suc d) m) (flags far (suc d) m))
           → Pick L g (o ∷ flags f (suc d) m) (c ∷ flags far (suc d) m)
       go true true cd fd a b = take {g = g} (a (omega (arith, near (s + d) cd, gap_far d m (omega arith))))
-      go true false cd fd a b = absurd (not-both (sub d (omega arith) cd) fd)
+      go true false cd fd a b = absurd (not_both (sub d (omega arith) cd) fd)
       go false o cd fd a b =
-          let q : g + suc (stretch (clear N x) (s + suc d) m) ≤ L = rw (add-suc s d, ← stretch-yes (clear N x) (s + d) m (ap not cd)) h in
+          let q : g + suc (stretch (clear N x) (s + suc d) m) ≤ L = rw (add-suc s d, ← stretch_yes (clear N x) (s + d) m (ap not cd)) h in
           skip {g = g} (omega arith) (b (omega arith))
 
   -- the next chosen slot is near, and every slot from d on that is chosen is open and has its next one near
@@ -62,7 +62,7 @@ module _ (N x L s : ℕ) (f : ℕ → Bool) (at : chosen N x s ≡ true) where
       → ((far d ≡ true) × (f d ≡ true) × Near (suc d) 1 m) ⊎ ((far d ≡ false) × Near (suc d) (suc g) m) → Near d g (suc m)
   near_step m d g e h (inl z) =
       record {
-        first = omega (arith, stretch-no (clear N x) (s + d) (suc m) (ap not z.0));
+        first = omega (arith, stretch_no (clear N x) (s + d) (suc m) (ap not z.0));
         rest = λ i a b c. go i b c (eq-or-lt_of_le a);
       }
     where
@@ -74,7 +74,7 @@ module _ (N x L s : ℕ) (f : ℕ → Bool) (at : chosen N x s ≡ true) where
         first =
             omega (
               arith,
-              stretch-yes (clear N x) (s + d) m (ap not z.0),
+              stretch_yes (clear N x) (s + d) m (ap not z.0),
               ap (λ i. stretch (clear N x) i m) (add-suc s d),
               z.1.first,
             );
@@ -82,7 +82,7 @@ module _ (N x L s : ℕ) (f : ℕ → Bool) (at : chosen N x s ≡ true) where
       }
     where
       go : (i : ℕ) → i < N → far i ≡ true → (d ≡ i) ⊎ (d < i) → (gap N x (s + i) ≤ L) × (f i ≡ true)
-      go i b c (inl q) = absurd (not-both c (subst (λ n. far n ≡ false) q z.0))
+      go i b c (inl q) = absurd (not_both c (subst (λ n. far n ≡ false) q z.0))
       go i b c (inr q) = z.1.rest i q b c
 
   pub near_of : 1 ≤ L → (m d g : ℕ) → d + m ≡ N → g ≤ L → Pick L g (flags f d m) (flags far d m) → Near d g m

@@ -6,10 +6,10 @@ use Rattle.std.proofs.Common.{sym, ap, ◌∙◌, subst, inl, inr, arith, zero-a
 use Rattle.std.proofs.Math.Path.{ap₂}
 use Rattle.rules.specs.Sets.{has}
 use Rattle.rules.specs.Wheels.{chosen}
-use Rattle.laws.specs.Logic.{le-or-lt, not-both, not-true-false}
-use Rattle.laws.specs.Turns.{chosen-below, start-both}
+use Rattle.laws.specs.Logic.{le_or_lt, not_both, not_true_false}
+use Rattle.laws.specs.Turns.{chosen_below, start_both}
 use Rattle.laws.specs.Reading.{flags}
-use Rattle.laws.specs.Holes.{start-after}
+use Rattle.laws.specs.Holes.{start_after}
 use Rattle.line.specs.declared.Task.{Task}
 use Rattle.line.specs.Values.{N, L, taking}
 use Rattle.line.specs.Packets.{opens, opens_before, opens_last, head}
@@ -41,7 +41,7 @@ module _ (t : Task) (good : Sound t) (z : ℕ) (inside : z < N t) (hole : chosen
   -- a set of free slots does not have slot z
   not_chosen : (v k x : ℕ) (vn : v < N t) (e : head t v 0 k ≡ suc x) → chosen (N t) (R t good v k x vn e) z ≡ false
   unfolding chosen
-  not_chosen v k x vn e = not-true-false _ λ o. not-both ((R-within t good v k x vn e).among (z % N t) o) hole
+  not_chosen v k x vn e = not_true_false _ λ o. not_both ((R-within t good v k x vn e).among (z % N t) o) hole
 
   -- what a start is worth one before z + L is worth too
   earlier : (v k x : ℕ) → v < N t → head t v 0 k ≡ x → (s : ℕ) × (s < N t) × (s < z + L t) × (x ≤ head t s 0 k)
@@ -49,8 +49,8 @@ module _ (t : Task) (good : Sound t) (z : ℕ) (inside : z < N t) (hole : chosen
   earlier v k (suc x) vn e =
       let within = R-within t good v k x vn e in
       let near = R-near t good v k x vn e in
-      let on = (start-both (N t) (R t good v k x vn e) v (R-start t good v k x vn e)).0 in
-      let (s, sn, soon, st) = start-after t.wheel good.legal (R t good v k x vn e) (L t) v on near z (not_chosen v k x vn e) inside in
+      let on = (start_both (N t) (R t good v k x vn e) v (R-start t good v k x vn e)).0 in
+      let (s, sn, soon, st) = start_after t.wheel good.legal (R t good v k x vn e) (L t) v on near z (not_chosen v k x vn e) inside in
       (s, sn, soon, rw (R-size t good v k x vn e, R-words t good v k x vn e) at (rival_worth t good (R t good v k x vn e) s st within near))
 
 -- ---- all slots are free
@@ -62,7 +62,7 @@ flags_same f g e i (suc m) = ap₂ (λ b l. b ∷ l) (e i) (flags_same f g e (su
 
 module _ (t : Task) (good : Sound t) (f : ℕ) (last : f + 1 ≡ N t) (run : FreeRun t 0 0 f) (free : has t.free f ≡ true) where
   all_has : (i : ℕ) → i < N t → has t.free i ≡ true
-  all_has i h = go (le-or-lt f i)
+  all_has i h = go (le_or_lt f i)
     where
       go : (f ≤ i) ⊎ (i < f) → has t.free i ≡ true
       go (inl l) =
@@ -70,14 +70,14 @@ module _ (t : Task) (good : Sound t) (f : ℕ) (last : f + 1 ≡ N t) (run : Fre
           subst (λ j. has t.free j ≡ true) e free
       go (inr l) =
           let e : i ≡ 0 + (0 + i) = omega arith in
-          sym (chosen-below (N t) t.free i h) ∙ ap (chosen (N t) t.free) e ∙ sym (opens_before t 0 (0 + i) (omega arith)) ∙ run.clear i l
+          sym (chosen_below (N t) t.free i h) ∙ ap (chosen (N t) t.free) e ∙ sym (opens_before t 0 (0 + i) (omega arith)) ∙ run.clear i l
 
   all_chosen : (i : ℕ) → chosen (N t) t.free i ≡ true
   unfolding chosen
   all_chosen i = all_has (i % N t) (mod-lt i good.legal.n1)
 
   opens_same : (s d : ℕ) → opens t s d ≡ opens t 0 d
-  opens_same s d = go (le-or-lt (N t) (d + 1))
+  opens_same s d = go (le_or_lt (N t) (d + 1))
     where
       go : (N t ≤ d + 1) ⊎ (d + 1 < N t) → opens t s d ≡ opens t 0 d
       go (inl h) = opens_last t s d h ∙ sym (opens_last t 0 d h)
@@ -96,7 +96,7 @@ module _ (t : Task) (good : Sound t) (f : ℕ) (fn : 0 + f < N t) (run : FreeRun
       covered t 1 good.legal.n1 λ v k h. (0, omega arith, omega (arith, head_same t good f last run free v k))
 
   pub enough_before : Enough t (min (N t) (L t + f))
-  enough_before = go (le-or-lt (N t) (L t + f))
+  enough_before = go (le_or_lt (N t) (L t + f))
     where
       go : (N t ≤ L t + f) ⊎ (L t + f < N t) → Enough t (min (N t) (L t + f))
       go (inl h) =

@@ -12,13 +12,13 @@ use Rattle.std.proofs.Math.ListN.{get_or}
 use Rattle.std.proofs.lemmas.Bool.{lt-leb}
 use Rattle.rules.specs.Sets.{has, set_of, sum, stretch, Within}
 use Rattle.rules.specs.Wheels.{chosen, start, size, words, gap}
-use Rattle.laws.specs.Logic.{le-or-lt, not-both}
-use Rattle.laws.specs.Counting.{sum-turn}
-use Rattle.laws.specs.Sets.{has-set, has-set-over}
+use Rattle.laws.specs.Logic.{le_or_lt, not_both}
+use Rattle.laws.specs.Counting.{sum_turn}
+use Rattle.laws.specs.Sets.{has_set, has_set_over}
 use Rattle.laws.specs.Turns.{start_of}
 use Rattle.laws.specs.Reading.{flags, count}
 use Rattle.laws.specs.Runs.{line}
-use Rattle.laws.specs.Gaps.{near-back}
+use Rattle.laws.specs.Gaps.{near_back}
 use Rattle.line.specs.declared.Task.{Task}
 use Rattle.line.specs.Values.{N, L, Pick, done, take, skip, slot_words, phase, greedy_length}
 use Rattle.line.specs.Packets.{opens, opens_before, opens_last, ahead, flags_length}
@@ -52,7 +52,7 @@ module _ (n s : ℕ) (sn : s < n) (l : List Bool) where
       rw (lt-leb s (s + d - n) (omega arith), e)
 
   flag_at : (d : ℕ) → d < n → slot_flag n s l ((s + d) % n) ≡ get_or l d false
-  flag_at d h = go (le-or-lt n (s + d))
+  flag_at d h = go (le_or_lt n (s + d))
     where
       go : (n ≤ s + d) ⊎ (s + d < n) → slot_flag n s l ((s + d) % n) ≡ get_or l d false
       go (inr k) = ap (slot_flag n s l) (mod-eq_of_lt k) ∙ flag_after d
@@ -63,15 +63,15 @@ module _ (n s : ℕ) (sn : s < n) (l : List Bool) where
   chosen_made : (d : ℕ) → d < n → chosen n (made n s l) (s + d) ≡ get_or l d false
   unfolding chosen made
   chosen_made d h =
-      has-set (slot_flag n s l) n 0 ((s + d) % n) (mod-lt (s + d) (omega arith)) ∙ ap (slot_flag n s l) (zero-add ((s + d) % n)) ∙ flag_at d h
+      has_set (slot_flag n s l) n 0 ((s + d) % n) (mod-lt (s + d) (omega arith)) ∙ ap (slot_flag n s l) (zero-add ((s + d) % n)) ∙ flag_at d h
 
   -- a slot of the set lies at some distance below n
   made_at : (i : ℕ) → has (made n s l) i ≡ true → (d : ℕ) × (d < n) × ((s + d) % n ≡ i)
   unfolding made
-  made_at i e = go (le-or-lt n i) (le-or-lt s i)
+  made_at i e = go (le_or_lt n i) (le_or_lt s i)
     where
       go : (n ≤ i) ⊎ (i < n) → (s ≤ i) ⊎ (i < s) → (d : ℕ) × (d < n) × ((s + d) % n ≡ i)
-      go (inl k) q = absurd (not-both e (has-set-over (slot_flag n s l) n 0 i k))
+      go (inl k) q = absurd (not_both e (has_set_over (slot_flag n s l) n 0 i k))
       go (inr k) (inl q) =
           let c : s + (i - s) ≡ i = omega arith in
           (i - s, omega arith, ap (λ m. m % n) c ∙ mod-eq_of_lt k)
@@ -126,7 +126,7 @@ module _ (t : Task) (s : ℕ) (sn : s < N t) (all : List Bool) where
   bits_made e =
       bits_sum all 0 (omega arith) (λ i h. ap (λ j. get_or all j false) (zero-add i))
       ∙ ap₂ (λ i m. sum (λ j. brings (j % N t)) i m) (add-zero s) e
-      ∙ sum-turn (λ j. brings (j % N t)) (N t) (λ i. ap brings (add-mod_right i (N t))) s
+      ∙ sum_turn (λ j. brings (j % N t)) (N t) (λ i. ap brings (add-mod_right i (N t))) s
       ∙ sum_near (λ j. brings (j % N t)) brings (N t) 0 (λ j a b. ap brings (mod-eq_of_lt (omega arith)))
       ∙ sym (set_sum (slot_flag (N t) s all) 0 (N t)) ∙ omega arith
 
@@ -192,10 +192,10 @@ module _ (t : Task) (good : Sound t) (s : ℕ) (sn : s < N t) (free : opens t s 
 
   -- an open slot is not the last one, and free
   open_free : (d : ℕ) → opens t s d ≡ true → (d + 1 < N t) × (chosen (N t) t.free (s + d) ≡ true)
-  open_free d o = go (le-or-lt (N t) (d + 1))
+  open_free d o = go (le_or_lt (N t) (d + 1))
     where
       go : (N t ≤ d + 1) ⊎ (d + 1 < N t) → (d + 1 < N t) × (chosen (N t) t.free (s + d) ≡ true)
-      go (inl h) = absurd (not-both o (opens_last t s d h))
+      go (inl h) = absurd (not_both o (opens_last t s d h))
       go (inr h) = (h, sym (opens_before t s d h) ∙ o)
 
   pub made_within : Within t.free X
@@ -227,7 +227,7 @@ module _ (t : Task) (good : Sound t) (s : ℕ) (sn : s < N t) (free : opens t s 
 
   pub made_near : (i : ℕ) → i < N t → chosen (N t) X i ≡ true → gap (N t) X i ≤ L t
   unfolding gap
-  made_near i h = near-back (N t) X good.legal.n1 (L t) s (λ d k o. go d k o) i
+  made_near i h = near_back (N t) X good.legal.n1 (L t) s (λ d k o. go d k o) i
     where
       go : (d : ℕ) → d < N t → chosen (N t) X (s + d) ≡ true → suc (stretch (clear (N t) X) (suc (s + d)) (N t - 1)) ≤ L t
       go zero k o = rw (add-zero s) (omega (arith, near.first, ap (λ j. stretch (clear (N t) X) j (N t - 1)) (add-one s)))

@@ -8,11 +8,11 @@ use Prim.Native.Nat.{ℕ, suc, ◌+◌, ◌-◌, ◌%◌, ◌≤◌, ◌<◌}
 use native.Mathlib.Omega.{arith}
 use Rattle.rules.specs.Sets.{Within}
 use Rattle.rules.specs.Wheels.{chosen, start, size, words, gap}
-use Rattle.laws.specs.Logic.{not-both}
-use Rattle.laws.specs.Turns.{start-both}
-use Rattle.laws.specs.Reading.{flags, count, lineWords}
-use Rattle.laws.specs.Runs.{line, words-read}
-use Rattle.laws.specs.Gaps.{near-turn}
+use Rattle.laws.specs.Logic.{not_both}
+use Rattle.laws.specs.Turns.{start_both}
+use Rattle.laws.specs.Reading.{flags, count, line_words}
+use Rattle.laws.specs.Runs.{line, words_read}
+use Rattle.laws.specs.Gaps.{near_turn}
 use Rattle.line.specs.declared.Task.{Task}
 use Rattle.line.specs.Values.{N, L, took, raised_le, Pick, slot_words, phase, taking, worth_bounds}
 use Rattle.line.specs.Packets.{opens, opens_before, ahead, head}
@@ -26,7 +26,7 @@ module _ (t : Task) (good : Sound t) (y s : ℕ) (st : start (N t) y s ≡ true)
   others = flags (λ d. chosen (N t) y (s + d)) 1 (N t - 1)
 
   at : chosen (N t) y s ≡ true
-  at = (start-both (N t) y s st).0
+  at = (start_both (N t) y s st).0
 
   pub from_start : from (N t) y s ≡ true ∷ others
   unfolding flags
@@ -39,9 +39,9 @@ module _ (t : Task) (good : Sound t) (y s : ℕ) (st : start (N t) y s ≡ true)
   size_others = size_from_start (N t) y s ∙ ap count from_start
 
   pub words_others : words t.wheel y ≡ slot_words t 0 + line t.wheel (phase t 0) others
-  unfolding lineWords
+  unfolding line_words
   words_others =
-      words-read t.wheel good.legal y s (start-both (N t) y s st).1 ∙ ap (line t.wheel 0) (from_flags (N t) y s ∙ from_start)
+      words_read t.wheel good.legal y s (start_both (N t) y s st).1 ∙ ap (line t.wheel 0) (from_flags (N t) y s ∙ from_start)
 
   module _ (within : Within t.free y) (near : (i : ℕ) → i < N t → chosen (N t) y i ≡ true → gap (N t) y i ≤ L t) where
     opened : (d : ℕ) → d < N t → chosen (N t) y (s + d) ≡ true → opens t s d ≡ true
@@ -51,13 +51,13 @@ module _ (t : Task) (good : Sound t) (y s : ℕ) (st : start (N t) y s ≡ true)
         go : (suc d ≡ N t) ⊎ (suc d < N t) → opens t s d ≡ true
         go (inl e) =
             let last : s + d ≡ s + (N t - 1) = omega arith in
-            absurd (not-both o (ap (chosen (N t) y) last ∙ (start-both (N t) y s st).1))
+            absurd (not_both o (ap (chosen (N t) y) last ∙ (start_both (N t) y s st).1))
         go (inr l) = opens_before t s d (omega arith) ∙ within.among ((s + d) % N t) o
 
     pub rival : Pick (L t) 1 (ahead t s 1) others
     unfolding gap
     rival =
-        let all = near-turn (N t) y good.legal.n1 (L t) near in
+        let all = near_turn (N t) y good.legal.n1 (L t) near in
         pick_of (N t) y (L t) s (opens t s) at all opened (N t - 1) 1 1 (omega (arith, good.legal.n1)) (rw (add-one s) (omega (arith, all s at)))
 
     pub rival_worth : suc (words t.wheel y) ≤ head t s 0 (size (N t) y)

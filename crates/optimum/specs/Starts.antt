@@ -8,14 +8,14 @@ use Rattle.rules.specs.declared.Wheel.{Wheel}
 use Rattle.rules.specs.Sets.{has, places, Below}
 use Rattle.rules.specs.Wheels.{chosen, size, full, start, words}
 use Rattle.rules.specs.Best.{smallest_start, Before, here, later}
-use Rattle.laws.specs.Logic.{le-or-lt}
-use Rattle.laws.specs.Search.{all-each}
-use Rattle.laws.specs.Counting.{stretch-stops, stretch-end, stretch-each}
-use Rattle.laws.specs.Sets.{same_set, below-not}
-use Rattle.laws.specs.Turns.{chosen-turn, chosen-below, distance, distance-below, distance-same}
+use Rattle.laws.specs.Logic.{le_or_lt}
+use Rattle.laws.specs.Search.{all_each}
+use Rattle.laws.specs.Counting.{stretch_stops, stretch_end, stretch_each}
+use Rattle.laws.specs.Sets.{same_set, below_not}
+use Rattle.laws.specs.Turns.{chosen_turn, chosen_below, distance, distance_below, distance_same}
 use Rattle.laws.specs.Reading.{flags, count}
-use Rattle.laws.specs.Runs.{size-read}
-use Rattle.laws.specs.Whole.{some-start}
+use Rattle.laws.specs.Runs.{size_read}
+use Rattle.laws.specs.Whole.{some_start}
 use Rattle.line.specs.Values.{First, end, both}
 use Rattle.line.specs.Values as line
 
@@ -24,19 +24,19 @@ use Rattle.line.specs.Values as line
 module _ (N x : ℕ) where
   pub before_smallest : (i : ℕ) → i < smallest_start N x → start N x i ≡ false
   unfolding smallest_start
-  before_smallest i h = not-true (start N x i) (ap (λ j. not (start N x j)) (sym (zero-add i)) ∙ stretch-each (λ j. not (start N x j)) N 0 i h)
+  before_smallest i h = not-true (start N x i) (ap (λ j. not (start N x j)) (sym (zero-add i)) ∙ stretch_each (λ j. not (start N x j)) N 0 i h)
 
   smallest_is : (i : ℕ) → i < N → start N x i ≡ true → (start N x (smallest_start N x) ≡ true) × (smallest_start N x < N)
   unfolding smallest_start
   smallest_is i h e =
-      let low = stretch-stops (λ j. not (start N x j)) i 0 N (ap (λ j. not (start N x j)) (zero-add i) ∙ ap not e) in
-      let stop = stretch-end (λ j. not (start N x j)) N 0 (omega arith) in
+      let low = stretch_stops (λ j. not (start N x j)) i 0 N (ap (λ j. not (start N x j)) (zero-add i) ∙ ap not e) in
+      let stop = stretch_end (λ j. not (start N x j)) N 0 (omega arith) in
       (ap (start N x) (sym (zero-add _)) ∙ not-false (start N x _) stop, omega arith)
 
 -- a set that delivers words and is not the full wheel has one
 pub has_smallest : (w : Wheel) (x : ℕ) → full w.n x ≡ false → 1 ≤ words w x
     → (start w.n x (smallest_start w.n x) ≡ true) × (smallest_start w.n x < w.n)
-has_smallest w x e h = let (s, l, q) = some-start w x e h in smallest_is w.n x s l q
+has_smallest w x e h = let (s, l, q) = some_start w x e h in smallest_is w.n x s l q
 
 -- ---- flags at a distance from a start
 
@@ -53,7 +53,7 @@ pub from_flags : (N x s : ℕ) → flags (chosen N x) s N ≡ from N x s
 from_flags N x s = ap (λ i. flags (chosen N x) i N) (sym (add-zero s)) ∙ flags_shift (chosen N x) s 0 N
 
 pub size_from_start : (N x s : ℕ) → size N x ≡ count (from N x s)
-size_from_start N x s = size-read N x s ∙ ap count (from_flags N x s)
+size_from_start N x s = size_read N x s ∙ ap count (from_flags N x s)
 
 -- ---- how many slots there are
 
@@ -87,7 +87,7 @@ count_all f (suc m) i a =
 module _ (N x : ℕ) where
   pub size_full : full N x ≡ true → size N x ≡ N
   unfolding full
-  size_full e = size-read N x 0 ∙ count_all (chosen N x) N 0 (λ d h. ap (chosen N x) (zero-add d) ∙ all-each (chosen N x) N d h e)
+  size_full e = size_read N x 0 ∙ count_all (chosen N x) N 0 (λ d h. ap (chosen N x) (zero-add d) ∙ all_each (chosen N x) N d h e)
 
   pub size_less : (s : ℕ) → 1 ≤ N → chosen N x (s + (N - 1)) ≡ false → size N x < N
   size_less s n1 e =
@@ -105,18 +105,18 @@ flags_each f g (suc m) i e (suc d) h =
     rw (add-suc i d, ← suc-add i d) (flags_each f g m (suc i) tails d (omega arith))
 
 pub same_from : (N x y s : ℕ) → 1 ≤ N → Below N x → Below N y → from N x s ≡ from N y s → x ≡ y
-same_from N x y s n1 bx by e = same_set x y λ i. go i (le-or-lt N i)
+same_from N x y s n1 bx by e = same_set x y λ i. go i (le_or_lt N i)
   where
     at : (i : ℕ) → chosen N x (s + distance N s i) ≡ chosen N y (s + distance N s i)
     at i =
         rw (← zero-add (distance N s i))
-        (flags_each (λ d. chosen N x (s + d)) (λ d. chosen N y (s + d)) N 0 e (distance N s i) (distance-below N s i n1))
+        (flags_each (λ d. chosen N x (s + d)) (λ d. chosen N y (s + d)) N 0 e (distance N s i) (distance_below N s i n1))
 
     go : (i : ℕ) → (N ≤ i) ⊎ (i < N) → has x i ≡ has y i
-    go i (inl h) = below-not x N bx i h ∙ sym (below-not y N by i h)
+    go i (inl h) = below_not x N bx i h ∙ sym (below_not y N by i h)
     go i (inr h) =
-        sym (chosen-below N x i h) ∙ sym (distance-same (chosen N x) N (chosen-turn N x) n1 s i) ∙ at i
-        ∙ distance-same (chosen N y) N (chosen-turn N y) n1 s i ∙ chosen-below N y i h
+        sym (chosen_below N x i h) ∙ sym (distance_same (chosen N x) N (chosen_turn N x) n1 s i) ∙ at i
+        ∙ distance_same (chosen N y) N (chosen_turn N y) n1 s i ∙ chosen_below N y i h
 
 -- ---- of two choices, the first has the distances that come first
 

@@ -17,15 +17,15 @@ use Rattle.rules.specs.Flows.{flow, held_cells, Own, Agree}
 use Rattle.rules.specs.Numbers.{number}
 use Rattle.rules.specs.Orders.{Agrees, checked, order_of, call_order, opening, closing}
 use Rattle.rules.specs.Promises.{closed_record, Performs, Opens, Closes, Reports}
-use Rattle.laws.specs.Logic.{not-both, not-true-false, not-false-true, le-or-lt}
-use Rattle.laws.specs.Refusals.{passed, passes-front, Alike, alike-line, alike-given, alike_self, passes-alike, refuses-alike}
-use Rattle.ledger.specs.Agreement.{closed-own}
-use Rattle.ledger.specs.Totals.{free-and-held}
-use Rattle.ledger.specs.Lines.{checked-ready, named}
-use Rattle.ledger.specs.Calls.{order_alike, toOpened, toCleared}
+use Rattle.laws.specs.Logic.{not_both, not_true_false, not_false_true, le_or_lt}
+use Rattle.laws.specs.Refusals.{passed, passes_front, Alike, alike_line, alike_given, alike_self, passes_alike, refuses_alike}
+use Rattle.ledger.specs.Agreement.{closed_own}
+use Rattle.ledger.specs.Totals.{free_and_held}
+use Rattle.ledger.specs.Lines.{checked_ready, named}
+use Rattle.ledger.specs.Calls.{order_alike, to_opened, to_cleared}
 use Rattle.decide.specs.Decisions.{Settles, Decides}
 use Rattle.perform.specs.declared.Decision.{Decision}
-use Rattle.changes.specs.Changes.{changeOf}
+use Rattle.changes.specs.Changes.{change_of}
 use Rattle.perform.specs.Performed.{is_done, MarksIf, PerformsOne, ReportsOne}
 
 -- the record of flow f of n; the closed one where there is no such flow
@@ -36,10 +36,10 @@ pub record RecordOf (list : List Record) (n f : ℕ) (r : Record) : Type 0 where
 -- a record of a list that agrees obeys its own rules, and so does the closed one
 pub record_own : (chip : Chip) (t : List ℕ) (n : ℕ) (list : List Record) (f : ℕ) (r : Record) → RecordOf list n f r → Agrees chip t n list
     → Own chip r.state r
-record_own chip t n list f r r-is agrees = go (le-or-lt 1 f) (le-or-lt f n) (le-or-lt f 64)
+record_own chip t n list f r r-is agrees = go (le_or_lt 1 f) (le_or_lt f n) (le_or_lt f 64)
   where
     none : r ≡ closed_record → Own chip r.state r
-    none e = subst (λ x. Own chip x.state x) (sym e) (closed-own chip)
+    none e = subst (λ x. Own chip x.state x) (sym e) (closed_own chip)
 
     go : (1 ≤ f) ⊎ (f < 1) → (f ≤ n) ⊎ (n < f) → (f ≤ 64) ⊎ (64 < f) → Own chip r.state r
     go (inl a) (inl b) (inl c) = subst (λ x. Own chip x.state x) (sym (r-is.there a b c)) (agrees.agree.own (f - 1) (omega arith))
@@ -51,23 +51,23 @@ record_own chip t n list f r r-is agrees = go (le-or-lt 1 f) (le-or-lt f n) (le-
 module _ (chip : Chip) (t : List ℕ) (n : ℕ) (list : List Record) (agreed : Bool) (tells : Tells agreed (Agrees chip t n list)) where
   begins : Alike (checked chip t n (agreed ≡ false)) (checked chip t n (¬ Agree chip t n list))
   begins =
-      alike-line _ _ _ λ legal.
-      alike-line _ _ _ λ tabled.
-      alike-line _ _ _ λ listed.
-      alike-given 4 _ _ _ _
+      alike_line _ _ _ λ legal.
+      alike_line _ _ _ λ tabled.
+      alike_line _ _ _ λ listed.
+      alike_given 4 _ _ _ _
       (λ e g. legal λ l. tabled λ b. listed λ k. tells.no e (record { ready = record { legal = l; tabled = b; listed = k }; agree = g }))
-      (λ g. not-true-false agreed (λ e. g (tells.yes e).agree))
+      (λ g. not_true_false agreed (λ e. g (tells.yes e).agree))
       λ _. alike_self _
 
   pub reports_joined : (held : ℕ) (a : Reported) → (agreed ≡ true → held ≡ held_cells chip.wheel n list) → ReportsOne chip t n (agreed ≡ false) held a
       → Reports chip t n list a
   unfolding Reports ReportsOne
   reports_joined held (reported.Counted c) h p =
-      let yes = not-false-true agreed (passed (checked chip t n (agreed ≡ false)) 4 p.0) in
+      let yes = not_false_true agreed (passed (checked chip t n (agreed ≡ false)) 4 p.0) in
       let agrees = tells.yes yes in
-      let all = free-and-held chip t n list agrees.ready.legal agrees.agree in
-      (passes-alike _ _ begins p.0, omega (arith, p.2, h yes, all), p.1 ∙ h yes)
-  reports_joined held (reported.Refused q) h p = refuses-alike _ _ (number q) begins p
+      let all = free_and_held chip t n list agrees.ready.legal agrees.agree in
+      (passes_alike _ _ begins p.0, omega (arith, p.2, h yes, all), p.1 ∙ h yes)
+  reports_joined held (reported.Refused q) h p = refuses_alike _ _ (number q) begins p
 
   module _ (r : Record) (call : Call) (same : RecordOf list n call.flow r) where
     pub own_told : agreed ≡ true → Own chip r.state r
@@ -79,7 +79,7 @@ module _ (chip : Chip) (t : List ℕ) (n : ℕ) (list : List Record) (agreed : B
     alike : Alike (order_of chip t n (agreed ≡ false) r.state call call.verb) (call_order chip t n list call)
     alike =
         order_alike chip t t n _ _ _ _ call call.verb begins
-        (λ p one most. ap (λ x. x.state) (found (checked-ready chip t n _ p).listed.most one most)) (λ _ _ _. refl)
+        (λ p one most. ap (λ x. x.state) (found (checked_ready chip t n _ p).listed.most one most)) (λ _ _ _. refl)
 
     module _ (t' : List ℕ) (o : Decision) (p : PerformsOne chip t n (agreed ≡ false) r call t' o) where
       -- a call that is granted has its flow in the list: what is stored is stored there, and the record is the flow's
@@ -91,32 +91,32 @@ module _ (chip : Chip) (t : List ℕ) (n : ℕ) (list : List Record) (agreed : B
               → is_done a ≡ true → (o.at < n) × (n ≤ 64) × (r ≡ flow list (call.flow - 1))
           go (answer.Done y) d e =
               let (one, most) = named chip t n _ _ call call.verb d.0 in
-              let few = (checked-ready chip t n _ (passes-front (checked chip t n (agreed ≡ false)) _ d.0)).listed.most in
+              let few = (checked_ready chip t n _ (passes_front (checked chip t n (agreed ≡ false)) _ d.0)).listed.most in
               (omega (arith, p.at, one, most), few, found few one most)
-          go (answer.Refused q) d e = absurd (not-both e refl)
+          go (answer.Refused q) d e = absurd (not_both e refl)
 
       pub performs_joined : (list' : List Record) → list' ≡ cond o.go (set list o.at o.new) list → Performs chip t n list call t' list' o.answer
       unfolding Settles
       performs_joined list' e = go o.answer p.decides p.go p.new p.marks
         where
-          go : (a : Answer) → Decides chip t n (agreed ≡ false) r call call.verb a → o.go ≡ is_done a → o.new ≡ (changeOf r call a).new
-              → MarksIf chip o.go (changeOf r call a) t t' → Performs chip t n list call t' list' a
+          go : (a : Answer) → Decides chip t n (agreed ≡ false) r call call.verb a → o.go ≡ is_done a → o.new ≡ (change_of r call a).new
+              → MarksIf chip o.go (change_of r call a) t t' → Performs chip t n list call t' list' a
           go (answer.Done y) d done new marks =
               let is = (stored_at done).2 in
-              (passes-alike _ _ alike d.0, rw (← is) d.1, rw (← is) (marks.marked done), e ∙ rw (done, p.at, new, is))
-          go (answer.Refused q) d done new marks = (refuses-alike _ _ (number q) alike d, marks.kept done, e ∙ rw done)
+              (passes_alike _ _ alike d.0, rw (← is) d.1, rw (← is) (marks.marked done), e ∙ rw (done, p.at, new, is))
+          go (answer.Refused q) d done new marks = (refuses_alike _ _ (number q) alike d, marks.kept done, e ∙ rw done)
 
 -- ---- a call's answer in the words of an opening, and of a closing
 
 module _ (chip : Chip) (t : List ℕ) (n : ℕ) (list : List Record) (t' : List ℕ) (list' : List Record) where
   pub as_opens : (path : List ℕ) (m f : ℕ) (d : Demand) (a : Answer) → Performs chip t n list (opening path m f d) t' list' a
-      → Opens chip t n list path m f d t' list' (toOpened a)
+      → Opens chip t n list path m f d t' list' (to_opened a)
   unfolding Opens
   as_opens path m f d (answer.Done (yes.Granted g)) p = p
   as_opens path m f d (answer.Done (yes.Cells k)) p = absurd p.1
   as_opens path m f d (answer.Refused q) p = p
 
-  pub as_closes : (f : ℕ) (a : Answer) → Performs chip t n list (closing f) t' list' a → Closes chip t n list f t' list' (toCleared a)
+  pub as_closes : (f : ℕ) (a : Answer) → Performs chip t n list (closing f) t' list' a → Closes chip t n list f t' list' (to_cleared a)
   unfolding Closes
   as_closes f (answer.Done (yes.Granted g)) p = absurd p.1
   as_closes f (answer.Done (yes.Cells k)) p = p

@@ -20,12 +20,12 @@ use Rattle.rules.specs.Flows.{Own}
 use Rattle.rules.specs.Numbers.{number, Refuses, Passes}
 use Rattle.rules.specs.Orders.{Ready, checked, order_of}
 use Rattle.rules.specs.Promises.{change, Told, Marked}
-use Rattle.laws.specs.Logic.{not-both, not-false-true}
-use Rattle.laws.specs.Refusals.{passed, passes-front}
-use Rattle.ledger.specs.Lines.{checked-ready, saw}
+use Rattle.laws.specs.Logic.{not_both, not_false_true}
+use Rattle.laws.specs.Refusals.{passed, passes_front}
+use Rattle.ledger.specs.Lines.{checked_ready, saw}
 use Rattle.table.specs.Along.{Walkable, own_walkable}
 use Rattle.decide.specs.Decisions.{Settles, Decides}
-use Rattle.changes.specs.Changes.{changeOf}
+use Rattle.changes.specs.Changes.{change_of}
 use Rattle.perform.specs.declared.Decision.{Decision}
 
 -- whether a call is granted
@@ -48,8 +48,8 @@ pub record PerformsOne (chip : Chip) (t : List ℕ) (n : ℕ) (disagree : Type 0
   pub decides : Decides chip t n disagree r call call.verb o.answer
   pub go : o.go ≡ is_done o.answer
   pub at : o.at ≡ call.flow - 1
-  pub new : o.new ≡ (changeOf r call o.answer).new
-  pub marks : MarksIf chip o.go (changeOf r call o.answer) t t'
+  pub new : o.new ≡ (change_of r call o.answer).new
+  pub marks : MarksIf chip o.go (change_of r call o.answer) t t'
 
 -- the report, from the number of cells that the records claim
 unfoldable pub ReportsOne : Chip → List ℕ → ℕ → Type 0 → ℕ → Reported → Type 0
@@ -60,7 +60,7 @@ ReportsOne chip t n disagree held (reported.Refused q) = Refuses (checked chip t
 -- a call that is granted has a change that can be written, by the verb
 module _ (chip : Chip) (t : List ℕ) (n : ℕ) (agreed : Bool) (r : Record) (call : Call) (own : agreed ≡ true → Own chip r.state r) where
   markable : (v : Verb) (y : Yes) → Passes (order_of chip t n (agreed ≡ false) r.state call v) → Told chip t r call v y → Markable chip t (change r call v y)
-  markable v y p told = go v y p told (checked-ready chip t n _ (passes-front (checked chip t n (agreed ≡ false)) _ p))
+  markable v y p told = go v y p told (checked_ready chip t n _ (passes_front (checked chip t n (agreed ≡ false)) _ p))
     where
       go : (v : Verb) (y : Yes) → Passes (order_of chip t n (agreed ≡ false) r.state call v) → Told chip t r call v y → Ready chip t n
           → Markable chip t (change r call v y)
@@ -73,7 +73,7 @@ module _ (chip : Chip) (t : List ℕ) (n : ℕ) (agreed : Bool) (r : Record) (ca
           }
       go (ToOpen d) (yes.Cells k) p told ready = absurd told
       go ToClose y p told ready =
-          let agrees = not-false-true agreed (passed (order_of chip t n (agreed ≡ false) r.state call ToClose) 4 p) in
+          let agrees = not_false_true agreed (passed (order_of chip t n (agreed ≡ false) r.state call ToClose) 4 p) in
           record {
             legal = ready.legal;
             walkable = own_walkable chip r t r.state (own agrees) ready.tabled;
@@ -81,7 +81,7 @@ module _ (chip : Chip) (t : List ℕ) (n : ℕ) (agreed : Bool) (r : Record) (ca
           }
 
   pub done_markable : (a : Answer) → Decides chip t n (agreed ≡ false) r call call.verb a
-      → is_done a ≡ true → (c : Change) → c ≡ changeOf r call a → Markable chip t c
+      → is_done a ≡ true → (c : Change) → c ≡ change_of r call a → Markable chip t c
   unfolding Settles
   done_markable (answer.Done y) p e c is = subst (Markable chip t) (sym is) (markable call.verb y p.0 p.1)
-  done_markable (answer.Refused q) p e c is = absurd (not-both e refl)
+  done_markable (answer.Refused q) p e c is = absurd (not_both e refl)

@@ -12,7 +12,7 @@ use Rattle.rules.specs.declared.Reported.TheVariants as reported
 use Rattle.rules.specs.Sets.{has, places}
 use Rattle.rules.specs.Numbers.{number}
 use Rattle.grammar.specs.Text.{ascii, field, fields}
-use Rattle.grammar.specs.Answers.{openText, closeText, reportText}
+use Rattle.grammar.specs.Answers.{open_text, close_text, report_text}
 
 unfoldable pub refusal_tail : Refusal → List ℕ
 refusal_tail r = ascii " refused" ++ field (number r)
@@ -38,16 +38,16 @@ close_tail (cleared.Refused r) = refusal_tail r
 unfoldable pub totals_text : Totals → List ℕ
 totals_text c = ascii "report free" ++ field c.free ++ (ascii " held" ++ field c.held)
 
-pub open_split : (f : ℕ) (a : Opened) → openText f a ≡ (ascii "open" ++ field f) ++ open_tail a
-unfolding openText open_tail grant_tail refusal_tail
+pub open_split : (f : ℕ) (a : Opened) → open_text f a ≡ (ascii "open" ++ field f) ++ open_tail a
+unfolding open_text open_tail grant_tail refusal_tail
 open_split f (opened.Granted g) = simp append_assoc
 open_split f (opened.Refused r) = simp append_assoc
 
-pub close_split : (f : ℕ) (a : Cleared) → closeText f a ≡ (ascii "close" ++ field f) ++ close_tail a
-unfolding closeText close_tail refusal_tail
+pub close_split : (f : ℕ) (a : Cleared) → close_text f a ≡ (ascii "close" ++ field f) ++ close_tail a
+unfolding close_text close_tail refusal_tail
 close_split f (cleared.Cells k) = simp append_assoc
 close_split f (cleared.Refused r) = simp append_assoc
 
-pub report_split : (c : Totals) → reportText (reported.Counted c) ≡ totals_text c
-unfolding reportText totals_text
+pub report_split : (c : Totals) → report_text (reported.Counted c) ≡ totals_text c
+unfolding report_text totals_text
 report_split c = simp append_assoc

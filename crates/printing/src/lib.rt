@@ -1,7 +1,7 @@
 // Printing: the text of each answer at a place of a buffer, written as `texts` writes.
 ghost use Rattle.std.specs.Prelude.{◌≡◌, ◌+◌, ◌≤◌, length};
 ghost use Rattle.rules.specs.Numbers.{number};
-ghost use Rattle.grammar.specs.Answers.{openText, closeText, reportText, badText};
+ghost use Rattle.grammar.specs.Answers.{open_text, close_text, report_text, bad_text};
 ghost use Rattle.texts.specs.Puts.{Puts};
 ghost use Rattle.printing.specs.Tails.{refusal_tail, grant_tail, open_tail, close_tail, totals_text};
 
@@ -72,8 +72,8 @@ fn put_totals(out: &mut [u8], at: usize, c: Totals) -> usize
 
 // The line for an opening.
 pub fn put_open(out: &mut [u8], at: usize, flow: usize, a: Opened) -> usize
-    requires { at + length (openText flow a) ≤ length out.old }
-    ensures { Puts out.old at (openText flow a) out.new result }
+    requires { at + length (open_text flow a) ≤ length out.old }
+    ensures { Puts out.old at (open_text flow a) out.new result }
 {
     let next = texts::put_labelled(out, at, b"open", flow);
     put_opened(out, next, a)
@@ -81,8 +81,8 @@ pub fn put_open(out: &mut [u8], at: usize, flow: usize, a: Opened) -> usize
 
 // The line for a closing.
 pub fn put_close(out: &mut [u8], at: usize, flow: usize, a: Cleared) -> usize
-    requires { at + length (closeText flow a) ≤ length out.old }
-    ensures { Puts out.old at (closeText flow a) out.new result }
+    requires { at + length (close_text flow a) ≤ length out.old }
+    ensures { Puts out.old at (close_text flow a) out.new result }
 {
     let next = texts::put_labelled(out, at, b"close", flow);
     put_cleared(out, next, a)
@@ -90,8 +90,8 @@ pub fn put_close(out: &mut [u8], at: usize, flow: usize, a: Cleared) -> usize
 
 // The line for a report.
 pub fn put_report(out: &mut [u8], at: usize, a: Reported) -> usize
-    requires { at + length (reportText a) ≤ length out.old }
-    ensures { Puts out.old at (reportText a) out.new result }
+    requires { at + length (report_text a) ≤ length out.old }
+    ensures { Puts out.old at (report_text a) out.new result }
 {
     match a {
         Reported::Counted(c) => put_totals(out, at, c),
@@ -101,8 +101,8 @@ pub fn put_report(out: &mut [u8], at: usize, a: Reported) -> usize
 
 // The line for a bad line.
 pub fn put_bad(out: &mut [u8], at: usize, k: usize) -> usize
-    requires { at + length (badText k) ≤ length out.old }
-    ensures { Puts out.old at (badText k) out.new result }
+    requires { at + length (bad_text k) ≤ length out.old }
+    ensures { Puts out.old at (bad_text k) out.new result }
 {
     let next = texts::put_labelled(out, at, b"line", k);
     texts::put(out, next, b" bad")

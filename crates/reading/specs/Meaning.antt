@@ -4,7 +4,7 @@ use Rattle.std.proofs.Common.{sym, ap, ◌∙◌}
 use Rattle.rules.specs.Paths.{trimmed}
 use Rattle.grammar.specs.Text.{lines}
 use Rattle.grammar.specs.Commands.{Command, opening, closing, reporting, Reads, Bad}
-use Rattle.grammar.specs.Spelling.{reads-once}
+use Rattle.grammar.specs.Spelling.{reads_once}
 use Rattle.reading.specs.declared.Span.{Span}
 use Rattle.reading.specs.declared.Verb.{Verb}
 use Rattle.reading.specs.declared.Verb.TheVariants as verb
@@ -45,7 +45,7 @@ pub data Means (line : List ℕ) (r : Parsed) : Type 0 where
 
 -- the line settles what it is read as
 pub means_unique : (line : List ℕ) (r q : Parsed) → Means line r → Means line q → r ≡ q
-means_unique line r q (says c a e) (says d b f) = e ∙ ap parsed (reads-once c d a b) ∙ sym f
+means_unique line r q (says c a e) (says d b f) = e ∙ ap parsed (reads_once c d a b) ∙ sym f
 means_unique line r q (says c a e) (says_nothing b f) = absurd (b.none c a)
 means_unique line r q (says_nothing a e) (says d b f) = absurd (a.none d b)
 means_unique line r q (says_nothing a e) (says_nothing b f) = e ∙ sym f

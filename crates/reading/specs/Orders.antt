@@ -10,7 +10,7 @@ use Rattle.std.proofs.Math.Seq.{length-take-le}
 use Rattle.rules.specs.Paths.{trimmed}
 use Rattle.grammar.specs.Text.{fields}
 use Rattle.grammar.specs.Commands.{opening, closing, Few, Bad}
-use Rattle.grammar.specs.Spelling.{few-none, few_head, few-cons, fields-same}
+use Rattle.grammar.specs.Spelling.{few_none, few_head, few_cons, fields_same}
 use Rattle.decimals.specs.Meaning.{FieldsAt, NoFields}
 use Rattle.reading.specs.Meaning.{Begins, bare, parsed, Means, says}
 use Rattle.reading.specs.Verbs.{open_bytes, close_bytes, not_open, not_close, opening_reads, closing_reads}
@@ -33,7 +33,7 @@ module _ (line : List ℕ) (r : Fields) (b : Begins line open_bytes) (f : Fields
   pub opens_not : r.count < 3 → Bad line
   opens_not h =
       not_open line b λ ns few most some e.
-      let same = fields-same (take r.count r.values) ns f.few few (sym f.spelled ∙ e) in
+      let same = fields_same (take r.count r.values) ns f.few few (sym f.spelled ∙ e) in
       omega (arith, ap length same, count_long)
 
   pub means_open : 3 ≤ r.count
@@ -70,7 +70,7 @@ module _ (line : List ℕ) (r : Fields) (b : Begins line close_bytes) (f : Field
   pub closes_not : (r.count ≡ 1 → ⊥) → Bad line
   closes_not h =
       not_close line b λ n small e.
-      let same = fields-same (take r.count r.values) (n ∷ []) f.few (few-cons small few-none) (sym f.spelled ∙ e) in
+      let same = fields_same (take r.count r.values) (n ∷ []) f.few (few_cons small few_none) (sym f.spelled ∙ e) in
       h (sym (length-take-le r.count r.values (omega (arith, f.most, f.long))) ∙ ap length same)
 
   pub means_close : r.count ≡ 1 → Means line (bare verb.Close (get_or r.values 0 0))
@@ -81,4 +81,4 @@ module _ (line : List ℕ) (r : Fields) (b : Begins line close_bytes) (f : Field
       says (closing (get_or vs 0 0)) (closing_reads line (get_or vs 0 0) b (few_head (subst Few all f.few)) (f.spelled ∙ ap fields all)) refl
 
 pub closes_nothing : (line : List ℕ) → Begins line close_bytes → NoFields line 5 → Bad line
-closes_nothing line b n = not_close line b (λ k small e. n.none (k ∷ []) (few-cons small few-none) (omega arith) e)
+closes_nothing line b n = not_close line b (λ k small e. n.none (k ∷ []) (few_cons small few_none) (omega arith) e)

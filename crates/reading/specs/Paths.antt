@@ -3,9 +3,9 @@ use Rattle.std.specs.Prelude.{◌≡◌, refl, cond, List, ◌⊎◌, ℕ, ◌+�
 use Rattle.std.proofs.Common.{sym, ap, ◌∙◌, inl, inr, arith, eq-or-lt_of_le, zero-add, add_comm, lt-ltb, le-ltb, length-set, ext_get_or, get_or-drop, get_or-take, get_or-set_same, get_or-set_other}
 use Rattle.std.proofs.lemmas.List.{get_or-replicate}
 use Rattle.rules.specs.Paths.{trimmed}
-use Rattle.laws.specs.Logic.{le-or-lt}
+use Rattle.laws.specs.Logic.{le_or_lt}
 use Rattle.laws.specs.Counting.{list_length}
-use Rattle.grammar.specs.Filling.{listOf-at}
+use Rattle.grammar.specs.Filling.{list_of_at}
 
 pub record Filled (values path : List ℕ) (i : ℕ) : Type 0 where
   pub long : length path ≡ 16
@@ -33,7 +33,7 @@ filled_more values path i f h = record {
 -- entry k of a path of m channels
 trimmed_at : (path : List ℕ) (m k : ℕ) → k < 16 → get_or (trimmed path m) k 0 ≡ cond (ltb k m) (get_or path k 0) 0
 unfolding trimmed
-trimmed_at path m k h = listOf-at (λ i. cond (ltb i m) (get_or path i 0) 0) 0 16 k h ∙ rw (zero-add k)
+trimmed_at path m k h = list_of_at (λ i. cond (ltb i m) (get_or path i 0) 0) 0 16 k h ∙ rw (zero-add k)
 
 trimmed_long : (path : List ℕ) (m : ℕ) → length (trimmed path m) ≡ 16
 unfolding trimmed
@@ -42,7 +42,7 @@ trimmed_long path m = list_length (λ i. cond (ltb i m) (get_or path i 0) 0) 16 
 pub filled_all : (values path : List ℕ) (count : ℕ) → Filled values path count → path ≡ trimmed (drop 3 values) count
 filled_all values path count f =
     ext_get_or 0 path (trimmed (drop 3 values) count) (f.long ∙ sym (trimmed_long (drop 3 values) count))
-    λ k h. go k (omega (arith, f.long)) (le-or-lt count k)
+    λ k h. go k (omega (arith, f.long)) (le_or_lt count k)
   where
     go : (k : ℕ) → k < 16 → (count ≤ k) ⊎ (k < count) → get_or path k 0 ≡ get_or (trimmed (drop 3 values) count) k 0
     go k h (inl l) = f.rest k l h ∙ sym (trimmed_at (drop 3 values) count k h ∙ rw (le-ltb k count l))
@@ -54,7 +54,7 @@ filled_all values path count f =
 pub trimmed_take : (path : List ℕ) (m : ℕ) → trimmed path m ≡ trimmed (take m path) m
 trimmed_take path m =
     ext_get_or 0 (trimmed path m) (trimmed (take m path) m) (trimmed_long path m ∙ sym (trimmed_long (take m path) m))
-    λ k h. go k (omega (arith, trimmed_long path m)) (le-or-lt m k)
+    λ k h. go k (omega (arith, trimmed_long path m)) (le_or_lt m k)
   where
     go : (k : ℕ) → k < 16 → (m ≤ k) ⊎ (k < m) → get_or (trimmed path m) k 0 ≡ get_or (trimmed (take m path) m) k 0
     go k h (inl l) = trimmed_at path m k h ∙ rw (le-ltb k m l) (sym (trimmed_at (take m path) m k h ∙ rw (le-ltb k m l)))

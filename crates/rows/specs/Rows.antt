@@ -8,7 +8,7 @@ use Rattle.std.proofs.Math.ListN.{get_or}
 use Rattle.std.proofs.Math.Dec.{eqb}
 use Rattle.std.proofs.lemmas.Bool.{eqb-false}
 use Rattle.rules.specs.Sets.{has, any}
-use Rattle.laws.specs.Search.{any-more}
+use Rattle.laws.specs.Search.{any_more}
 
 -- slot s, seen k slots later on a wheel of n slots
 unfoldable pub later : ℕ → ℕ → ℕ → ℕ
@@ -39,7 +39,7 @@ later_below n k s n1 = mod-lt _ n1
 module _ (n k x v : ℕ) (row : List ℕ) (s j old : ℕ) (marked : get_or row j 0 ≡ cond (hits n k x j s) v old) where
   pub mark_skip : has x s ≡ false → get_or row j 0 ≡ cond (hits n k x j (s + 1)) v old
   unfolding hits
-  mark_skip e = rw (any-more, e) (go (any (λ s. has x s && eqb (later n k s) j) s) marked)
+  mark_skip e = rw (any_more, e) (go (any (λ s. has x s && eqb (later n k s) j) s) marked)
     where
       go : (b : Bool) → get_or row j 0 ≡ cond b v old → get_or row j 0 ≡ cond (b || false) v old
       go true m = m
@@ -47,7 +47,7 @@ module _ (n k x v : ℕ) (row : List ℕ) (s j old : ℕ) (marked : get_or row j
 
   pub mark_slot : (at : ℕ) → has x s ≡ true → at ≡ later n k s → at < length row → get_or (set row at v) j 0 ≡ cond (hits n k x j (s + 1)) v old
   unfolding hits
-  mark_slot at e q l = rw (any-more, e, ← q) (go (any (λ s. has x s && eqb (later n k s) j) s) (eqb at j) refl marked)
+  mark_slot at e q l = rw (any_more, e, ← q) (go (any (λ s. has x s && eqb (later n k s) j) s) (eqb at j) refl marked)
     where
       here : at ≡ j → get_or (set row at v) j 0 ≡ v
       here i = rw (← i) (get_or-set_same row at v 0 l)

@@ -6,19 +6,19 @@ use Rattle.std.proofs.Math.Bool.{cond}
 use Prim.Native.Nat.{ℕ, suc, ◌+◌, ◌-◌, ◌*◌, ◌/◌, ◌%◌, ◌^◌, ◌≤◌, ◌<◌}
 use native.Mathlib.Omega.{arith}
 use Rattle.rules.specs.Sets.{has, all, set_of}
-use Rattle.laws.specs.Logic.{le-or-lt}
-use Rattle.laws.specs.Search.{all-each}
-use Rattle.laws.specs.Sets.{has-set, has-set-over, same_set, set_below, below_of, below-not, below-shift, below-small}
+use Rattle.laws.specs.Logic.{le_or_lt}
+use Rattle.laws.specs.Search.{all_each}
+use Rattle.laws.specs.Sets.{has_set, has_set_over, same_set, set_below, below_of, below_not, below_shift, below_small}
 
 set_small : (f : ℕ → Bool) (i m : ℕ) → set_of f i m < 2 ^ m
-set_small f i m = below-small _ m (below-shift _ m (set_below f i m))
+set_small f i m = below_small _ m (below_shift _ m (set_below f i m))
 
 pub set_same : (f g : ℕ → Bool) (m : ℕ) → ((s : ℕ) → s < m → f s ≡ g s) → set_of f 0 m ≡ set_of g 0 m
-set_same f g m same = same_set _ _ λ s. go s (le-or-lt m s)
+set_same f g m same = same_set _ _ λ s. go s (le_or_lt m s)
   where
     go : (s : ℕ) → (m ≤ s) ⊎ (s < m) → has (set_of f 0 m) s ≡ has (set_of g 0 m) s
-    go s (inl l) = has-set-over f m 0 s l ∙ sym (has-set-over g m 0 s l)
-    go s (inr l) = has-set f m 0 s l ∙ ap f (zero-add s) ∙ same s l ∙ ap g (sym (zero-add s)) ∙ sym (has-set g m 0 s l)
+    go s (inl l) = has_set_over f m 0 s l ∙ sym (has_set_over g m 0 s l)
+    go s (inr l) = has_set f m 0 s l ∙ ap f (zero-add s) ∙ same s l ∙ ap g (sym (zero-add s)) ∙ sym (has_set g m 0 s l)
 
 -- the slots of f from s on are in y; now slot s - 1
 module _ (f : ℕ → Bool) (n s y : ℕ) (some : 0 < s) (most : s ≤ n) (made : y ≡ set_of f s (n - s)) where
@@ -37,9 +37,9 @@ module _ (f : ℕ → Bool) (n s y : ℕ) (some : 0 < s) (most : s ≤ n) (made 
 -- the n lowest of 64 ones
 pub all_slots : (n : ℕ) → n ≤ 64 → 18446744073709551615 / 2 ^ (64 - n) ≡ set_of (λ s. true) 0 n
 unfolding has all
-all_slots n n64 = same_set _ _ λ s. ap (λ v. eqb (v % 2) 1) (shr-shr 18446744073709551615 (64 - n) s) ∙ go s (le-or-lt n s)
+all_slots n n64 = same_set _ _ λ s. ap (λ v. eqb (v % 2) 1) (shr-shr 18446744073709551615 (64 - n) s) ∙ go s (le_or_lt n s)
   where
     go : (s : ℕ) → (n ≤ s) ⊎ (s < n) → has 18446744073709551615 (64 - n + s) ≡ has (set_of (λ s. true) 0 n) s
     go s (inl l) =
-        below-not _ 64 (below_of 18446744073709551615 64 (omega arith)) (64 - n + s) (omega arith) ∙ sym (has-set-over (λ s. true) n 0 s l)
-    go s (inr l) = all-each (has 18446744073709551615) 64 (64 - n + s) (omega arith) refl ∙ sym (has-set (λ s. true) n 0 s l)
+        below_not _ 64 (below_of 18446744073709551615 64 (omega arith)) (64 - n + s) (omega arith) ∙ sym (has_set_over (λ s. true) n 0 s l)
+    go s (inr l) = all_each (has 18446744073709551615) 64 (64 - n + s) (omega arith) refl ∙ sym (has_set (λ s. true) n 0 s l)

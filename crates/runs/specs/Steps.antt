@@ -5,10 +5,10 @@ use Rattle.std.proofs.Math.Nat.{mod_self}
 use Rattle.rules.specs.declared.Wheel.{Wheel}
 use Rattle.rules.specs.Sets.{stretch}
 use Rattle.rules.specs.Wheels.{Legal, chosen, start, run, run_words, words_at}
-use Rattle.laws.specs.Logic.{le-or-lt}
-use Rattle.laws.specs.Counting.{stretch-le, stretch-turn}
-use Rattle.laws.specs.Turns.{chosen-turn}
-use Rattle.laws.specs.Bounds.{runWords-most}
+use Rattle.laws.specs.Logic.{le_or_lt}
+use Rattle.laws.specs.Counting.{stretch_le, stretch_turn}
+use Rattle.laws.specs.Turns.{chosen_turn}
+use Rattle.laws.specs.Bounds.{run_words_most}
 
 -- slot j is chosen, or not chosen, as wanted
 unfoldable pub as_wanted : ℕ → ℕ → Bool → ℕ → Bool
@@ -17,13 +17,13 @@ as_wanted N x wanted j = cond wanted (chosen N x j) (not (chosen N x j))
 -- a stretch that begins at the slot after i
 pub stretch_after : (N x i m : ℕ) (wanted : Bool) → i < N → stretch (as_wanted N x wanted) ((i + 1) % N) m ≡ stretch (as_wanted N x wanted) (suc i) m
 unfolding as_wanted
-stretch_after N x i m wanted h = go (le-or-lt N (i + 1))
+stretch_after N x i m wanted h = go (le_or_lt N (i + 1))
   where
     f : ℕ → Bool
     f = as_wanted N x wanted
 
     turn : (j : ℕ) → as_wanted N x wanted (j + N) ≡ as_wanted N x wanted j
-    turn j = rw (chosen-turn N x j)
+    turn j = rw (chosen_turn N x j)
 
     go : (N ≤ i + 1) ⊎ (i + 1 < N) → stretch (as_wanted N x wanted) ((i + 1) % N) m ≡ stretch (as_wanted N x wanted) (suc i) m
     go (inr l) = rw (mod-eq_of_lt l, add-one i)
@@ -31,12 +31,12 @@ stretch_after N x i m wanted h = go (le-or-lt N (i + 1))
         let e : i + 1 ≡ N = omega arith in
         let wrapped : (i + 1) % N ≡ 0 = ap (λ k. k % N) e ∙ mod_self N in
         let last : suc i ≡ 0 + N = omega arith in
-        rw (wrapped, last) (sym (stretch-turn (as_wanted N x wanted) N turn 0 m))
+        rw (wrapped, last) (sym (stretch_turn (as_wanted N x wanted) N turn 0 m))
 
 pub words_at_most : (w : Wheel) → Legal w → (x i : ℕ) → words_at w x i ≤ 4096
 unfolding words_at run
 words_at_most w legal x i = go (start w.n x i)
   where
     go : (b : Bool) → cond b (run_words w (run w.n x i)) 0 ≤ 4096
-    go true = runWords-most w legal (run w.n x i) (omega (arith, stretch-le (chosen w.n x) w.n i, legal.n64))
+    go true = run_words_most w legal (run w.n x i) (omega (arith, stretch_le (chosen w.n x) w.n i, legal.n64))
     go false = omega arith

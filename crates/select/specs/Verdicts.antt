@@ -8,7 +8,7 @@ use Rattle.rules.specs.Sets.{Below}
 use Rattle.rules.specs.Wheels.{Legal, words, largest_gap}
 use Rattle.rules.specs.Numbers.{Refuses, Passes}
 use Rattle.rules.specs.Orders.{select_order}
-use Rattle.laws.specs.Answers.{thirteen, not-thirteen, fourteen, whole_meets, not-fourteen}
+use Rattle.laws.specs.Answers.{thirteen, not_thirteen, fourteen, whole_meets, not_fourteen}
 use Rattle.optimum.specs.Answer.{Meetable}
 
 -- ---- what can be said before the free slots are measured
@@ -52,7 +52,7 @@ module _ (w : Wheel) (free W L : ℕ) (p : Posed w free W L) where
     pub too_far : L < largest_gap w.n free → Refuses (select_order w free W L) 14
     unfolding Refuses
     too_far h =
-        let delivers = not-thirteen w p.legal free W enough in
+        let delivers = not_thirteen w p.legal free W enough in
         let none = fourteen w p.legal free W L w1 enough h in
         inr ((λ bad. bad p.legal), inr ((λ beyond. beyond p.fit), inr (p.some, inr (p.time, inr (delivers, inl (none, refl))))))
 
@@ -64,6 +64,6 @@ module _ (w : Wheel) (free W L : ℕ) (p : Posed w free W L) where
       pub passes : Passes (select_order w free W L)
       unfolding Passes
       passes =
-          let delivers = not-thirteen w p.legal free W enough in
-          let meets = not-fourteen w p.legal free W L enough near in
+          let delivers = not_thirteen w p.legal free W enough in
+          let meets = not_fourteen w p.legal free W L enough near in
           ((λ bad. bad p.legal), ((λ beyond. beyond p.fit), (p.some, (p.time, (delivers, (meets, tt))))))

@@ -11,9 +11,9 @@ use Rattle.rules.specs.Paths.{Chip, cell, shift, seen, usable, free, free_slots,
 use Rattle.rules.specs.Flows.{Own}
 use Rattle.rules.specs.Orders.{Tabled}
 use Rattle.laws.specs.Search.{any_same, all_more}
-use Rattle.laws.specs.Sets.{has-set}
-use Rattle.ledger.specs.Claims.{claim-found, claim-made}
-use Rattle.ledger.specs.Stamps.{lent-cell, returned, stamp-turn}
+use Rattle.laws.specs.Sets.{has_set}
+use Rattle.ledger.specs.Claims.{claim_found, claim_made}
+use Rattle.ledger.specs.Stamps.{lent_cell, returned, stamp_turn}
 use Rattle.rows.specs.Slots.{set_same}
 use Rattle.rows.specs.Rows.{later, hits, stays, RowStamped, later_below}
 
@@ -42,7 +42,7 @@ row_room walk i h = omega (arith, walk.inside.at i h, walk.rows)
 
 -- a cell of the row that is lent, d being the number of its channel c
 pub lent_row : (t : List ℕ) (d c j : ℕ) → d ≡ c → j < 64 → get_or (take (64 * d + 64 - 64 * d) (drop (64 * d) t)) j 0 ≡ cell t c j
-lent_row t d c j e h = lent-cell t (64 * d) (64 * d + 64 - 64 * d) c j (ap (λ k. 64 * k) e) (omega arith)
+lent_row t d c j e h = lent_cell t (64 * d) (64 * d + 64 - 64 * d) c j (ap (λ k. 64 * k) e) (omega arith)
 
 -- the leaves are told the shift of position i as k, turned round the wheel
 module _ (chip : Chip) (path : List ℕ) (i k : ℕ) (turned : k ≡ shift chip path i % chip.wheel.n) where
@@ -76,7 +76,7 @@ unfolding free stays usable
 free_turn chip t path row i k x n1 turned made cells =
     set_same _ _ chip.wheel.n λ s h.
     rw (all_more, made, seen_later chip path i k turned s, ← cells (later chip.wheel.n k s) (later_below chip.wheel.n k s n1))
-    (ap (λ b. b && eqb (get_or row (later chip.wheel.n k s) 0) 0) (has-set _ chip.wheel.n 0 s h ∙ ap (free chip t path i) (zero-add s)))
+    (ap (λ b. b && eqb (get_or row (later chip.wheel.n k s) 0) 0) (has_set _ chip.wheel.n 0 s h ∙ ap (free chip t path i) (zero-add s)))
 
 pub free_end : (chip : Chip) (t path : List ℕ) (m x : ℕ) → x ≡ set_of (free chip t path m) 0 chip.wheel.n → x ≡ free_slots chip t path m
 unfolding free_slots
@@ -91,7 +91,7 @@ pub mark_turn : (chip : Chip) (path : List ℕ) (x v : ℕ) (t₀ t : List ℕ) 
     → Stamped chip path (i + 1) x v t₀ (returned (64 * d) (64 * d + 64 - 64 * d) t ys)
 mark_turn chip path x v t₀ t i k ys d turned stamped e room long marked =
     let size = 64 * d + 64 - 64 * d in
-    stamp-turn chip path x v t₀ t i ys (64 * d) size stamped (ap (λ c. 64 * c) e) (omega arith) room long
+    stamp_turn chip path x v t₀ t i ys (64 * d) size stamped (ap (λ c. 64 * c) e) (omega arith) room long
     (λ j h. marked.at j h ∙ ap (λ b. cond b v (get_or (take size (drop (64 * d) t)) j 0)) (sym (reached_hits chip path i k turned x j chip.wheel.n)))
 
 -- ---- cells that hold v, position by position
@@ -102,15 +102,15 @@ module _ (chip : Chip) (t path : List ℕ) (m x v : ℕ) where
   rows_hold each =
       record {
         at = λ c j e.
-            let k = claim-found chip path m x c j e in
+            let k = claim_found chip path m x c j e in
             ap (λ d. cell t d j) (sym k.here)
             ∙ ap (cell t (get_or path k.position 0)) (sym k.there)
-            ∙ each k.position k.on-path k.slot k.on-wheel k.chosen;
+            ∙ each k.position k.on_path k.slot k.on_wheel k.chosen;
       }
 
   pub hold_rows : Holds chip t path m x v → (i : ℕ) → i < m → (s : ℕ) → s < chip.wheel.n → has x s ≡ true
       → cell t (get_or path i 0) (seen chip path i s) ≡ v
   hold_rows holds i h s l e =
       holds.at (get_or path i 0) (seen chip path i s)
-      (claim-made chip path m x (get_or path i 0) (seen chip path i s)
-      (record { position = i; slot = s; on-path = h; on-wheel = l; here = refl; chosen = e; there = refl }))
+      (claim_made chip path m x (get_or path i 0) (seen chip path i s)
+      (record { position = i; slot = s; on_path = h; on_wheel = l; here = refl; chosen = e; there = refl }))

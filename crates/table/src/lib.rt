@@ -6,7 +6,7 @@ ghost use Rattle.rules.specs.Wheels.{Legal};
 ghost use Rattle.rules.specs.Paths.{chip_of, free_slots, Stamped};
 ghost use Rattle.rules.specs.Orders.{Tabled};
 ghost use Rattle.rules.specs.Promises.{HasRow, Row};
-ghost use Rattle.ledger.specs.Totals.{usedCells};
+ghost use Rattle.ledger.specs.Totals.{used_cells};
 ghost use Rattle.table.specs.Along.{Holds, Walkable};
 
 use rules::{Chip, Wheel};
@@ -121,7 +121,7 @@ pub fn holds(table: &[u8], chip: Chip, path: [u16; 16], len: usize, x: u64, v: u
 
 // How many cells of the table are not 0.
 pub fn count_used(table: &[u8]) -> usize
-    ensures { result ≡ usedCells table.now }
+    ensures { result ≡ used_cells table.now }
 {
     let mut count = 0;
     let mut i = 0;

@@ -2,11 +2,11 @@
 use Rattle.std.specs.Prelude.{◌≡◌, [], ◌∷◌, ◌++◌, ◌⊎◌, ℕ, zero, suc, ◌+◌, ◌-◌, ◌*◌, ◌/◌, ◌%◌, ◌^◌, ◌≤◌, ◌<◌}
 use Rattle.std.proofs.Common.{sym, ap, ◌∙◌, inl, inr, arith, pow-suc, mod-eq_of_lt, lt-ltb}
 use Rattle.std.proofs.Math.Nat.{one-le-pow, pow-le-pow_right}
-use Rattle.laws.specs.Logic.{le-or-lt}
+use Rattle.laws.specs.Logic.{le_or_lt}
 use Rattle.io.specs.Digits.{IsDigitCount}
 use Rattle.io.specs.Digits as wide
 use Rattle.grammar.specs.Text.{digits, decimal}
-use Rattle.grammar.specs.Decimals.{digits-one, digits_more}
+use Rattle.grammar.specs.Decimals.{digits_one, digits_more}
 
 glyph_is : (d : ℕ) → d < 10 → wide.hex_digit_ascii d ≡ 48 + d
 glyph_is d h = rw (lt-ltb d 10 h)
@@ -14,7 +14,7 @@ glyph_is d h = rw (lt-ltb d 10 h)
 same_digits : (k f n : ℕ) → k ≤ f → n < 10 ^ suc k → (1 ≤ k → 10 ^ k ≤ n) → wide.last_digits 10 (suc k) n ≡ digits (suc f) n
 same_digits zero f n h most least =
     let l : n < 10 = most in
-    ap (λ c. c ∷ []) (glyph_is (n % 10) (omega arith) ∙ ap (λ d. 48 + d) (mod-eq_of_lt l)) ∙ sym (digits-one f n l)
+    ap (λ c. c ∷ []) (glyph_is (n % 10) (omega arith) ∙ ap (λ d. 48 + d) (mod-eq_of_lt l)) ∙ sym (digits_one f n l)
 same_digits (suc k) zero n h most least = absurd (omega arith)
 same_digits (suc k) (suc f) n h most least =
     let some : 1 ≤ 10 ^ k = one-le-pow k 10 (omega arith) in
@@ -25,7 +25,7 @@ same_digits (suc k) (suc f) n h most least =
 
 -- a number of 64 bits has at most 20 digits
 fewest_most : (n r : ℕ) → IsDigitCount 10 1 n r → n < 2 ^ 64 → r ≤ 20
-fewest_most n r f h = go (le-or-lt r 20)
+fewest_most n r f h = go (le_or_lt r 20)
   where
     go : (r ≤ 20) ⊎ (20 < r) → r ≤ 20
     go (inl l) = l

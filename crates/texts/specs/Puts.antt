@@ -2,7 +2,7 @@
 use Rattle.std.specs.Prelude.{◌≡◌, List, [], ◌++◌, ℕ, ◌+◌, ◌≤◌, length, take, drop}
 use Rattle.std.proofs.Common.{sym, ap, ◌∙◌, append_assoc, arith, length-append}
 use Rattle.std.proofs.Math.Seq.{paste, take-length}
-use Rattle.grammar.specs.Writing.{written, written-length, written_on, written_none}
+use Rattle.grammar.specs.Writing.{written, written_length, written_on, written_none}
 
 -- `new` is `old` with the text at `at`, and p is the place behind it
 pub record Puts (old : List ℕ) (at : ℕ) (text new : List ℕ) (p : ℕ) : Type 0 where
@@ -25,7 +25,7 @@ puts_same a b e f = rw e at f
 
 -- the buffer keeps its length
 pub puts_length : {old new : List ℕ} {at p : ℕ} (a : List ℕ) → Puts old at a new p → at + length a ≤ length old → length new ≡ length old
-puts_length {old} {new} {at} {p} a f h = ap length f.out ∙ written-length old at a h
+puts_length {old} {new} {at} {p} a f h = ap length f.out ∙ written_length old at a h
 
 -- a text that is copied byte by byte
 pub puts_copied : (old : List ℕ) (at : ℕ) (text new : List ℕ) (i : ℕ) → new ≡ paste old at text i → i ≡ length text → Puts old at text new (at + i)

@@ -10,7 +10,7 @@ use Rattle.std.proofs.Math.Nat.{suc-add}
 use Rattle.std.proofs.Math.ListN.{length, length-append}
 use Rattle.rules.specs.Sets.{places}
 use Rattle.grammar.specs.Text.{field, fields}
-use Rattle.grammar.specs.Spelling.{fields-append}
+use Rattle.grammar.specs.Spelling.{fields_append}
 use Rattle.texts.specs.Puts.{Puts, puts_then, puts_length}
 
 -- the places up to m, and m
@@ -41,7 +41,7 @@ module _ (f : ℕ → Bool) where
   next_yes : (s : ℕ) → f s ≡ true → fields (places f 0 (s + 1)) ≡ fields (places f 0 s) ++ field s
   unfolding fields
   next_yes s e =
-      ap (λ m. fields (places f 0 m)) (add-one s) ∙ ap fields (places_last 0 s) ∙ rw (zero-add s, e) (fields-append (places f 0 s) (s ∷ []))
+      ap (λ m. fields (places f 0 m)) (add-one s) ∙ ap fields (places_last 0 s) ∙ rw (zero-add s, e) (fields_append (places f 0 s) (s ∷ []))
       ∙ ap (λ xs. fields (places f 0 s) ++ xs) (append-nil (field s))
 
   next_no : (s : ℕ) → f s ≡ false → fields (places f 0 (s + 1)) ≡ fields (places f 0 s)

@@ -3,7 +3,7 @@ use mathlib.Core.Path.{◌≡◌}
 use Prim.Native.Nat.{◌-◌, ◌≤◌}
 use native.Mathlib.Omega.{arith}
 use borrow.Author.Tests.{not-true, not-false}
-use Rattle.agree.specs.Checks.{Checks, checks-none, checks-given-up, checks-all}
+use Rattle.agree.specs.Checks.{Checks, checks_none, checks_given_up, checks_all}
 use Rattle.bytes_list.specs.Layout.{count_of, list_in}
 use Rattle.bytes_calls.specs.OverBytes.{record_room, checks_next, checks_counted}
 use borrow.Author.Rules.{rules}
@@ -20,13 +20,13 @@ returns : tie.Need-returns invariant-loop decreases-loop
 returns c =
     let b = c.before.before.begin.ensures in
     checks_counted _ _ _ _ c.before.before.before.count_of.ensures _
-    (checks-given-up _ _ _ _ 0 _ _ (not-true _ c.if1.true) (omega arith) (checks-none _ _ _ _ _ b.0 b.1))
+    (checks_given_up _ _ _ _ 0 _ _ (not-true _ c.if1.true) (omega arith) (checks_none _ _ _ _ _ b.0 b.1))
 
 loop-holds : tie.Need-loop-init invariant-loop decreases-loop
 loop-holds c =
     let b = c.before.before.begin.ensures in
     let ready = b.0.yes (not-false _ c.if1.false) in
-    (omega arith, ready.listed.most, c.before.before.before.count_of.ensures, checks-none _ _ _ _ _ b.0 b.1)
+    (omega arith, ready.listed.most, c.before.before.before.count_of.ensures, checks_none _ _ _ _ _ b.0 b.1)
 
 record-at-requires : tie.Need-record-at-requires invariant-loop decreases-loop
 record-at-requires c κs =
@@ -51,7 +51,7 @@ loop-again c =
 returns-2 : tie.Need-returns-2 invariant-loop decreases-loop
 returns-2 c =
     let at = c.before.loop in
-    checks_counted _ _ _ _ at.invariant.2 _ (checks-all _ _ _ _ at.f at.c (omega arith) at.invariant.3)
+    checks_counted _ _ _ _ at.invariant.2 _ (checks_all _ _ _ _ at.f at.c (omega arith) at.invariant.3)
 
 pub check-spec : {M : Type 1} → statement M
 check-spec =

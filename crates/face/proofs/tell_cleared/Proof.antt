@@ -1,16 +1,16 @@
 -- By the answer.
 use mathlib.Core.Path.{refl}
-use Rattle.face.specs.Told.{of_cleared_lem}
+use Rattle.face.specs.Told.{of_cleared}
 use Rattle.face.specs.Cases.{told_as}
 use borrow.Author.Rules.{rules}
 use Rattle.face.proofs.tell_cleared.Statement.{statement}
 use Rattle.face.proofs.tell_cleared.Tie as tie
 
 returns : tie.Need-returns
-returns c = told_as of_cleared_lem _ _ _ _ _ c.before.before.a.given.1 (refl, refl)
+returns c = told_as of_cleared _ _ _ _ _ c.before.before.a.given.1 (refl, refl)
 
 returns-2 : tie.Need-returns-2
-returns-2 c = told_as of_cleared_lem _ _ _ _ _ c.before.before.a2.given.1 (c.number_of_lem.ensures, refl)
+returns-2 c = told_as of_cleared _ _ _ _ _ c.before.before.a2.given.1 (c.number_of_lem.ensures, refl)
 
 pub tell-cleared-spec : {M : Type 1} → statement M
 tell-cleared-spec =

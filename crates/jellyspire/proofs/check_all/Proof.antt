@@ -39,7 +39,7 @@ use Rattle.rules.specs.Orders.{Tabled}
 use Rattle.rules.proofs.Chip.TheLaws as Chip'
 use Rattle.rules.proofs.Record.TheLaws as Record'
 use Rattle.agree.specs.declared.Checked.{Checked}
-use Rattle.agree.specs.Checks.{Checks, checks-none}
+use Rattle.agree.specs.Checks.{Checks, checks_none}
 use Rattle.agree.proofs.Checked.TheLaws as Checked'
 use Rattle.lent.proofs.Rows.{Rec, word, truth, flow}
 use Rattle.lent.proofs.Callee.{Good}
@@ -173,7 +173,7 @@ module _ {M : Type 1} {𝓤 : Ura M} (𝓛 : Logic 𝓤) (𝓣 : Tables 𝓤 �
         keeps ! refl ((flow 𝓛).typed o is-o).0 $
         sets ! (of_opd ! (lit ! tt)) refl (tt, record { fits = lit< tt }) $
         first ! $ blocks ! $
-        loops ! 𝓣 Nearer Nearer-wf (At o is-o bs) (turns o is-o bs) (0, c, zero-le, is_c, checks-none chip t n list c begun.0 begun.1)))
+        loops ! 𝓣 Nearer Nearer-wf (At o is-o bs) (turns o is-o bs) (0, c, zero-le, is_c, checks_none chip t n list c begun.0 begun.1)))
 
   check-all-meets : Triple 𝓤 (WpFn 𝓤 H 𝓣.C 𝓣.Λ code.function) (over 𝓛 (CheckAll 𝓛))
   check-all-meets = meets 𝓛 (CheckAll 𝓛) 𝓣 code.function (λ hs ls fit a good.

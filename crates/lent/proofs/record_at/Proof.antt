@@ -30,7 +30,7 @@ use Rattle.rules.specs.declared.Record.{Record}
 use Rattle.rules.specs.Flows.{none}
 use Rattle.rules.proofs.Record.TheLaws as Record'
 use Rattle.lent.specs.Lists.{record_at}
-use Rattle.lent.proofs.Rows.{record-size, Rec, word, flow, copies, offset-fits}
+use Rattle.lent.proofs.Rows.{record_size, Rec, word, flow, copies, offset_fits}
 use Rattle.lent.proofs.Callee.{Values, Good}
 use Rattle.lent.proofs.Slices.{over}
 use Rattle.lent.proofs.Cited.{RecordAt}
@@ -49,7 +49,7 @@ locals = value Record'.mir ++ (slice (named 0) imm Rec ++ (value (ty_int w64) ++
 
 -- the two arms, which the generated MIR has under no name
 abbrev in_arm : Body
-in_arm = seq (assign (place 7 []) (op2 (mul unsigned) (copy (place 2 [])) (int w64 record-size)))
+in_arm = seq (assign (place 7 []) (op2 (mul unsigned) (copy (place 2 [])) (int w64 record_size)))
     (seq (assign (place 8 []) (op2 offset (copy (place 1 (field 0 ∷ []))) (copy (place 7 []))))
     (seq (assign (place 9 []) (rv_opd (copy (place 8 (deref Record'.mir ∷ []))))) (assign (place 6 []) (rv_opd (copy (place 9 []))))))
 
@@ -109,10 +109,10 @@ module _ {M : Type 1} {𝓤 : Ura M} (𝓛 : Logic 𝓤) (𝓣 : Tables 𝓤 �
 
     within : T (ltb i h.count) → i < length ys → Sq 𝓛 (At Tested) (runs 𝓣.C 𝓣.Λ (env 𝓛 locals bs) in_arm Then)
     within z l =
-        let fits : WT (vint w64 (i * record-size)) = record { fits = offset-fits i h.count (ltb→lt i h.count z) room } in
+        let fits : WT (vint w64 (i * record_size)) = record { fits = offset_fits i h.count (ltb→lt i h.count z) room } in
         sets ! (bin ! (held ! refl) (lit ! tt) fits) refl (tt, fits) $
         sets ! (bin ! (held_in ! refl (sub ! 0 refl (whole !))) (held ! refl) tt) refl (tt, tt) $
-        rewrite ! 16 (λ (p : ℕ). ‵ (fat full_share ty_ptr (home locals bs 8) 0 (vptr h.block p))) (sym (place_is record-size h.offset i)) refl $
+        rewrite ! 16 (λ (p : ℕ). ‵ (fat full_share ty_ptr (home locals bs 8) 0 (vptr h.block p))) (sym (place_is record_size h.offset i)) refl $
         move ! (20 ∷ []) $ split ! $ fsplit ! $ move ! (1 ∷ []) $ fsplit ! $ move ! (1 ∷ 3 ∷ []) $
         looks_slice ! tt Rec (Is Rec) (shows 𝓛 Rec) vals (flow 𝓛).tells (copies 𝓛) ys h.block h.offset
         (λ q. elem_out ! Rec (Is Rec) (shows 𝓛 Rec) vals (flow 𝓛).tells q ys i none h.block h.offset l (λ is.

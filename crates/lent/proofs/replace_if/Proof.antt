@@ -31,11 +31,11 @@ use Rattle.rules.specs.declared.Record.{Record}
 use Rattle.rules.specs.Flows.{none}
 use Rattle.rules.proofs.Record.TheLaws as Record'
 use Rattle.lent.specs.Lists.{replaced_if}
-use Rattle.lent.proofs.Rows.{record-size, Rec, word, flow, offset-fits}
+use Rattle.lent.proofs.Rows.{record_size, Rec, word, flow, offset_fits}
 use Rattle.lent.proofs.Callee.{Values, Good}
 use Rattle.lent.proofs.Slices.{over}
 use Rattle.lent.proofs.Cited.{ReplaceIf}
-use Rattle.lent.proofs.Loans.{Handle, slice_of, ref-at, Mut}
+use Rattle.lent.proofs.Loans.{Handle, slice_of, ref_at, Mut}
 use Rattle.lent.proofs.Frames.{value, slice, Homes, home, Cell, empty, full, env, frame, allocates, leaves, goes_on, span, held, held_in, sets}
 use Rattle.lent.proofs.Walked.Over.{Ends, ends, meets}
 use Rattle.lent.specs.contracts.replace_if.Key.{name as #lent·replace-if}
@@ -105,11 +105,11 @@ module _ {M : Type 1} {𝓤 : Ura M} (𝓛 : Logic 𝓤) (𝓣 : Tables 𝓤 �
         (λ y. sets ! (of_opd ! (held_in ! refl (sub ! 1 refl (whole !)))) refl (tt, record { fits = room.0 }) $
         sets ! (bin ! (held ! refl) (held ! refl) tt) refl (tt, tt) $
         branches ! (held ! refl)
-        (λ z. let fits : WT (vint w64 (i * record-size)) = record { fits = offset-fits i h.count (ltb→lt i h.count z) room } in
+        (λ z. let fits : WT (vint w64 (i * record_size)) = record { fits = offset_fits i h.count (ltb→lt i h.count z) room } in
         let l : i < length ys = subst (λ (n : ℕ). i < n) (sym len) (ltb→lt i h.count z) in
         sets ! (bin ! (held ! refl) (lit ! tt) fits) refl (tt, fits) $
         sets ! (bin ! (held_in ! refl (sub ! 0 refl (whole !))) (held ! refl) tt) refl (tt, tt) $
-        rewrite ! 18 (λ (p : ℕ). ‵ (fat full_share ty_ptr (home locals bs 9) 0 (vptr h.block p))) (sym (place_is record-size h.offset i)) refl $
+        rewrite ! 18 (λ (p : ℕ). ‵ (fat full_share ty_ptr (home locals bs 9) 0 (vptr h.block p))) (sym (place_is record_size h.offset i)) refl $
         move ! (20 ∷ []) $ split ! $ fsplit ! $ drop ! $ fsplit ! $ opens_slice ! tt Rec ys h.block h.offset $
         elem_out ! Rec (Is Rec) (shows 𝓛 Rec) vals (flow 𝓛).tells full_share ys i none h.block h.offset l (λ _.
         -- [list[i]; what it owns; the others; the open borrow; obs; auth; local k at 6 + 2 · k]
@@ -119,7 +119,7 @@ module _ {M : Type 1} {𝓤 : Ura M} (𝓛 : Logic 𝓤) (𝓣 : Tables 𝓤 �
         move ! (1 ∷ []) $ drop ! $ owned ! Rec (Is Rec) (flow 𝓛).makes r _ good.1.1.0 $
         move ! (1 ∷ 0 ∷ []) $ elem_put ! Rec full_share ys i r (vals r) h.block h.offset l $
         closes_slice ! tt Rec ys zs (length-set ys i r) h.block h.offset $
-        fjoin ! $ pure_i ! (shr_slice_at Rec (ref-at Rec h zs) (slice_of h ∷ [])) (tt, (tt, tt))
+        fjoin ! $ pure_i ! (shr_slice_at Rec (ref_at Rec h zs) (slice_of h ∷ [])) (tt, (tt, tt))
         (ap (λ (m : ℕ). slice_val (h.block, h.offset) m ∷ []) (sym same), subst (Room Rec) (sym same) room) $ fjoin ! $ join ! $
         move ! (span 20 1) $ forget ! 12 refl $ forget ! 14 refl $ forget ! 16 refl $ forget ! 18 refl $
         finishes zs same (stored ys zs go (ltb i (length ys)) y (lt→ltb i (length ys) l))))

@@ -2,7 +2,7 @@
 use borrow.Author.Rules.{rules}
 use Rattle.rules.specs.Sets.{list_of}
 use Rattle.grammar.specs.Text.{ascii}
-use Rattle.grammar.specs.Answers.{longText}
+use Rattle.grammar.specs.Answers.{long_text}
 use Rattle.listing.specs.Runs.{writes_nothing, writes_long, writes_lines}
 use Rattle.listing.proofs.list.Statement.{statement}
 use Rattle.listing.proofs.list.Tie as tie
@@ -11,7 +11,7 @@ returns : tie.Need-returns
 returns c = writes_nothing _ _ c.if1.true
 
 returns-2 : tie.Need-returns-2
-unfolding longText ascii list_of
+unfolding long_text ascii list_of
 returns-2 c =
     let second = c.before.before.before.before.before in
     writes_long _ _ _ _ second.before.if1.false second.if2.true c.before.before.put.ensures

@@ -3,7 +3,7 @@ use mathlib.Core.Path.{◌≡◌, refl, subst}
 use mathlib.Core.Bool.{false}
 use native.Mathlib.Omega.{arith}
 use native.Mathlib.Nat.{mul-le-mul}
-use Rattle.ledger.specs.Lines.{checked-ready}
+use Rattle.ledger.specs.Lines.{checked_ready}
 use borrow.Author.Rules.{rules}
 use Rattle.rules.specs.Numbers.{Passes}
 use Rattle.rules.specs.Orders.{checked}
@@ -22,7 +22,7 @@ through c =
 mul-cells : tie.Need-overflow-mul-cells
 mul-cells c =
     let a = c.before.before.before.before.before.before.before.args in
-    let ready = checked-ready a.chip a.table.now a.n _ (through c.before.before.before) in
+    let ready = checked_ready a.chip a.table.now a.n _ (through c.before.before.before) in
     omega (arith, mul-le-mul ready.tabled.c64 ready.legal.n64)
 
 returns : tie.Need-returns

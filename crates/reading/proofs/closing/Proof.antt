@@ -2,7 +2,7 @@
 use borrow.Author.Tests.{not-true, not-false}
 use borrow.Author.Rules.{rules}
 use Rattle.reading.specs.Meaning.{says_nothing}
-use Rattle.decimals.specs.Columns.{was-split, was-not-split}
+use Rattle.decimals.specs.Columns.{was_split, was_not_split}
 use Rattle.reading.specs.Orders.{means_close, closes_not, closes_nothing}
 use Rattle.reading.proofs.closing.Statement.{statement}
 use Rattle.reading.proofs.closing.Tie as tie
@@ -11,14 +11,14 @@ returns : tie.Need-returns
 returns c =
     let st = c.before.before.before in
     says_nothing
-    (closes_nothing _ st.before.before.requires (was-not-split _ _ _ st.fields_at.ensures (not-true _ c.before.if1.true)))
+    (closes_nothing _ st.before.before.requires (was_not_split _ _ _ st.fields_at.ensures (not-true _ c.before.if1.true)))
     c.bad.ensures
 
 returns-2 : tie.Need-returns-2
 returns-2 c =
     let first = c.before.before.before in
     let st = first.before.before in
-    let split = was-split _ _ _ st.fields_at.ensures (not-false _ first.if1.false) in
+    let split = was_split _ _ _ st.fields_at.ensures (not-false _ first.if1.false) in
     says_nothing (closes_not _ _ st.before.before.requires split c.before.if2.true) c.bad2.ensures
 
 returns-3 : tie.Need-returns-3
@@ -26,7 +26,7 @@ returns-3 c =
     let second = c.before.before in
     let first = second.before.before in
     let st = first.before.before in
-    let split = was-split _ _ _ st.fields_at.ensures (not-false _ first.if1.false) in
+    let split = was_split _ _ _ st.fields_at.ensures (not-false _ first.if1.false) in
     rw c.bare.ensures (means_close _ _ st.before.before.requires split second.if2.false)
 
 pub closing-spec : {M : Type 1} → statement M

@@ -3,7 +3,7 @@ use mathlib.Core.Path.{◌≡◌}
 use native.Mathlib.Omega.{arith}
 use borrow.Author.Rules.{rules}
 use lib.ListN.{length}
-use Rattle.grammar.specs.Lines.{line-then, line-last}
+use Rattle.grammar.specs.Lines.{line_then, line_last}
 use Rattle.reading.proofs.next_line.Statement.{statement}
 use Rattle.reading.proofs.next_line.Tie as tie
 
@@ -17,7 +17,7 @@ returns c =
       past = omega arith;
       on = omega (arith, r.from);
       inside = omega arith;
-      split = line-then a.text.now a.at _ r c.if1.true;
+      split = line_then a.text.now a.at _ r c.if1.true;
     }
 
 returns-2 : tie.Need-returns-2
@@ -31,7 +31,7 @@ returns-2 c =
       past = omega arith;
       on = omega arith;
       inside = r.to;
-      split = line-last a.text.now a.at _ r (omega arith) all;
+      split = line_last a.text.now a.at _ r (omega arith) all;
     }
 
 pub next-line-spec : {M : Type 1} → statement M

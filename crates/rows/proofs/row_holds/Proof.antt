@@ -7,7 +7,7 @@ use native.Mathlib.Omega.{arith}
 use lib.ListN.{get_or}
 use borrow.Author.Count.{below_more}
 use Rattle.rules.specs.Sets.{has}
-use Rattle.laws.specs.Logic.{tells-yes, tells-no, not-both}
+use Rattle.laws.specs.Logic.{tells_yes, tells_no, not_both}
 use Rattle.rows.specs.Rows.{later}
 use Rattle.rows.proofs.row_holds.Statement.{statement}
 use Rattle.rows.proofs.row_holds.Tie as tie
@@ -25,7 +25,7 @@ returns : tie.Need-returns invariant-loop decreases-loop
 returns c =
     let st = c.before.before.before.before.before.before.before.before in
     let at = c.before.before.before.before.before.before.loop in
-    tells-no
+    tells_no
     (λ f.
     c.if2.true
     (ap (λ j. get_or st.args.row.now j 0) c.before.before.seen.ensures.0
@@ -38,11 +38,11 @@ loop-again c =
     let present = c.before.has-slot.ensures in (
       omega arith,
       below_more _ _ at.invariant.1 (λ e. ⊎_elim (λ u. ap (λ j. get_or st.args.row.now j 0) (sym u.1.ensures.0) ∙ u.3.left)
-          (λ u. absurd (not-both e (sym present ∙ u.left))) c.if1.branch),
+          (λ u. absurd (not_both e (sym present ∙ u.left))) c.if1.branch),
     )
 
 returns-2 : tie.Need-returns-2 invariant-loop decreases-loop
-returns-2 c = tells-yes (record { at = λ s h. c.before.loop.invariant.1 s (omega arith) })
+returns-2 c = tells_yes (record { at = λ s h. c.before.loop.invariant.1 s (omega arith) })
 
 pub row-holds-spec : {M : Type 1} → statement M
 row-holds-spec =

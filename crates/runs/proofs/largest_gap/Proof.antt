@@ -6,7 +6,7 @@ use borrow.Author.Tests.{not-true, not-false}
 use Rattle.rules.specs.Sets.{most}
 use Rattle.rules.specs.Wheels.{gap_at, largest_gap}
 use Rattle.laws.specs.Search.{most_more}
-use Rattle.laws.specs.Measured.{measured-good, measured-bad}
+use Rattle.laws.specs.Measured.{measured_good, measured_bad}
 use Rattle.runs.proofs.largest_gap.Statement.{statement}
 use Rattle.runs.proofs.largest_gap.Tie as tie
 
@@ -17,7 +17,7 @@ abbrev decreases-loop : tie.decreases-loop
 decreases-loop x n most₀ i₀ best i = n - i
 
 returns : tie.Need-returns invariant-loop decreases-loop
-returns c = measured-bad (c.before.legal.ensures.no (not-true _ c.if1.true))
+returns c = measured_bad (c.before.legal.ensures.no (not-true _ c.if1.true))
 
 loop-holds : tie.Need-loop-init invariant-loop decreases-loop
 unfolding most
@@ -40,7 +40,7 @@ returns-2 c =
     let st = c.before.before.before in
     let a = st.before.args in
     let all : c.before.loop.i ≡ a.w.n = omega arith in
-    measured-good (st.legal.ensures.yes (not-false _ c.before.before.if1.false)) (c.before.loop.invariant.1 ∙ ap (most (gap_at a.w.n a.x)) all)
+    measured_good (st.legal.ensures.yes (not-false _ c.before.before.if1.false)) (c.before.loop.invariant.1 ∙ ap (most (gap_at a.w.n a.x)) all)
 
 pub largest-gap-spec : {M : Type 1} → statement M
 largest-gap-spec =

@@ -3,7 +3,7 @@ use mathlib.Core.Path.{refl}
 use native.Mathlib.Omega.{arith}
 use borrow.Author.Rules.{rules}
 use Rattle.rules.specs.Wheels.{ceil, run_words}
-use Rattle.laws.specs.Bounds.{headers-most, run-most}
+use Rattle.laws.specs.Bounds.{headers_most, run_most}
 use Rattle.runs.proofs.run_words.Statement.{statement}
 use Rattle.runs.proofs.run_words.Tie as tie
 
@@ -14,19 +14,19 @@ returns c = refl
 mul-result : tie.Need-overflow-mul-result
 mul-result c =
     let a = c.before.before in
-    omega (arith, run-most a.args.w a.requires.0 a.args.q a.requires.1)
+    omega (arith, run_most a.args.w a.requires.0 a.args.q a.requires.1)
 
 mul-result-2 : tie.Need-overflow-mul-result-2
 unfolding ceil
 mul-result-2 c =
     let a = c.before.before in
-    omega (arith, headers-most a.args.w a.requires.0 a.args.q a.requires.1, run-most a.args.w a.requires.0 a.args.q a.requires.1)
+    omega (arith, headers_most a.args.w a.requires.0 a.args.q a.requires.1, run_most a.args.w a.requires.0 a.args.q a.requires.1)
 
 sub-result-2 : tie.Need-overflow-sub-result-2
 unfolding ceil
 sub-result-2 c =
     let a = c.before.before in
-    headers-most a.args.w a.requires.0 a.args.q a.requires.1
+    headers_most a.args.w a.requires.0 a.args.q a.requires.1
 
 pub run-words-spec : {M : Type 1} → statement M
 run-words-spec =

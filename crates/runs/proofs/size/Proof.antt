@@ -8,8 +8,8 @@ use borrow.Author.Tests.{not-true, not-false}
 use Rattle.rules.specs.Sets.{sum}
 use Rattle.rules.specs.Wheels.{chosen, size}
 use Rattle.laws.specs.Counting.{sum_more}
-use Rattle.laws.specs.Turns.{chosen-below}
-use Rattle.laws.specs.Measured.{measured-good, measured-bad}
+use Rattle.laws.specs.Turns.{chosen_below}
+use Rattle.laws.specs.Measured.{measured_good, measured_bad}
 use Rattle.runs.proofs.size.Statement.{statement}
 use Rattle.runs.proofs.size.Tie as tie
 
@@ -27,7 +27,7 @@ one_more : (n x i : ℕ) (b : Bool) → i < n → chosen n x i ≡ b → counted
 one_more n x i b h e = sum_more (λ j. cond (chosen n x j) 1 0) i ∙ ap (λ d. counted n x i + cond d 1 0) e
 
 returns : tie.Need-returns invariant-loop decreases-loop
-returns c = measured-bad (c.before.legal.ensures.no (not-true _ c.if1.true))
+returns c = measured_bad (c.before.legal.ensures.no (not-true _ c.if1.true))
 
 loop-holds : tie.Need-loop-init invariant-loop decreases-loop
 unfolding sum
@@ -43,7 +43,7 @@ loop-again c =
     let at = c.before.before.before.loop in
     let a = c.before.before.before.before.before.before.args in
     let below = c.before.before.loop-test.true in
-    let test = chosen-below a.w.n a.x at.i below ∙ sym c.before.has-slot.ensures in
+    let test = chosen_below a.w.n a.x at.i below ∙ sym c.before.has-slot.ensures in
     ⊎_elim
     (λ u. (omega arith, omega (arith, u.1), omega (arith, u.1, at.invariant.2, one_more a.w.n a.x at.i _ below (test ∙ u.0.taken))))
     (λ u. (omega arith, omega (arith, u.1), omega (arith, u.1, at.invariant.2, one_more a.w.n a.x at.i _ below (test ∙ u.0.left))))
@@ -55,7 +55,7 @@ returns-2 c =
     let st = c.before.before.before in
     let a = st.before.args in
     let all : c.before.loop.i ≡ a.w.n = omega arith in
-    measured-good (st.legal.ensures.yes (not-false _ c.before.before.if1.false)) (c.before.loop.invariant.2 ∙ ap (counted a.w.n a.x) all)
+    measured_good (st.legal.ensures.yes (not-false _ c.before.before.if1.false)) (c.before.loop.invariant.2 ∙ ap (counted a.w.n a.x) all)
 
 pub size-spec : {M : Type 1} → statement M
 size-spec =

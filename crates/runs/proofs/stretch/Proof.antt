@@ -7,7 +7,7 @@ use native.Mathlib.Nat.{mod-eq_of_lt, add-zero, sub-zero, mod-add-mod}
 use borrow.Author.Tests.{not-true, not-false}
 use Rattle.rules.specs.Sets.{has, stretch}
 use Rattle.rules.specs.Wheels.{chosen}
-use Rattle.laws.specs.Counting.{walk-on, walk-stop, walk_end}
+use Rattle.laws.specs.Counting.{walk_on, walk_stop, walk_end}
 use Rattle.runs.specs.Steps.{as_wanted}
 use Rattle.runs.proofs.stretch.Statement.{statement}
 use Rattle.runs.proofs.stretch.Tie as tie
@@ -35,7 +35,7 @@ returns : tie.Need-returns invariant-loop decreases-loop
 returns c =
     let at = c.before.before.before.loop in
     let a = c.before.before.before.before.args in
-    walk-stop (as_wanted a.n a.x a.wanted) a.limit at.count (a.from + at.count) _ at.invariant.2
+    walk_stop (as_wanted a.n a.x a.wanted) a.limit at.count (a.from + at.count) _ at.invariant.2
     (tested a.x a.n a.from a.wanted _ at.count at.i at.invariant.1 c.before.is-as-wanted.ensures ∙ not-true _ c.if1.true)
 
 loop-again : tie.Need-loop-preserved invariant-loop decreases-loop
@@ -46,7 +46,7 @@ loop-again c =
     let here = tested a.x a.n a.from a.wanted _ at.count at.i at.invariant.1 c.before.before.is-as-wanted.ensures in (
       c.after.ensures.1,
       c.after.ensures.0 ∙ ap (λ j. (j + 1) % a.n) at.invariant.1 ∙ mod-add-mod (a.from + at.count) a.n 1 ∙ ap (λ j. j % a.n) next,
-      rw (← next) (walk-on (as_wanted a.n a.x a.wanted) a.limit at.count (a.from + at.count) _ at.invariant.2
+      rw (← next) (walk_on (as_wanted a.n a.x a.wanted) a.limit at.count (a.from + at.count) _ at.invariant.2
           c.before.before.before.loop-test.true (here ∙ not-false _ c.before.if1.false)),
     )
 

@@ -7,10 +7,10 @@ use borrow.Author.Tests.{not-true, not-false}
 use Rattle.rules.specs.declared.Wheel.{Wheel}
 use Rattle.rules.specs.Sets.{sum, stretch}
 use Rattle.rules.specs.Wheels.{chosen, full, run_words, words_at, words}
-use Rattle.laws.specs.Logic.{not-true-false}
-use Rattle.laws.specs.Counting.{stretch-all, all-stretch}
+use Rattle.laws.specs.Logic.{not_true_false}
+use Rattle.laws.specs.Counting.{stretch_all, all_stretch}
 use Rattle.laws.specs.Bounds.{words_small}
-use Rattle.laws.specs.Measured.{measured-good, measured-bad}
+use Rattle.laws.specs.Measured.{measured_good, measured_bad}
 use Rattle.runs.specs.Steps.{as_wanted}
 use Rattle.runs.proofs.words.Statement.{statement}
 use Rattle.runs.proofs.words.Tie as tie
@@ -18,12 +18,12 @@ use Rattle.runs.proofs.words.Tie as tie
 module _ (w : Wheel) (x q r : ℕ) (counted : q ≡ stretch (as_wanted w.n x true) 0 w.n) where
   words-full : q ≡ w.n → r ≡ run_words w w.n → r ≡ words w x
   unfolding words full as_wanted
-  words-full e v = rw (stretch-all (chosen w.n x) w.n (sym counted ∙ e)) v
+  words-full e v = rw (stretch_all (chosen w.n x) w.n (sym counted ∙ e)) v
 
   words-cut : ¬ (q ≡ w.n) → r ≡ sum (words_at w x) 0 w.n → r ≡ words w x
   unfolding words full as_wanted
   words-cut n v =
-      rw (not-true-false (full w.n x) (λ e. n (counted ∙ all-stretch (chosen w.n x) w.n e))) v
+      rw (not_true_false (full w.n x) (λ e. n (counted ∙ all_stretch (chosen w.n x) w.n e))) v
 
 value_full : (c : tie.After-run-words) → (let a = c.before.before.before.before.before.args in c.run-words.result ≡ words a.w a.x)
 value_full c =
@@ -38,7 +38,7 @@ value_cut c =
     words-cut a.w a.x st.result c.words-of-runs.result st.ensures c.before.if2.false c.words-of-runs.ensures
 
 returns : tie.Need-returns
-returns c = measured-bad (c.before.legal.ensures.no (not-true _ c.if1.true))
+returns c = measured_bad (c.before.legal.ensures.no (not-true _ c.if1.true))
 
 stretch-requires : tie.Need-stretch-requires
 stretch-requires c κs =
@@ -59,7 +59,7 @@ cast-t8 c =
 returns-2 : tie.Need-returns-2
 returns-2 c =
     let st = c.before.before.before.before in
-    measured-good (st.legal.ensures.yes (not-false _ c.before.before.before.if1.false)) (value_full c)
+    measured_good (st.legal.ensures.yes (not-false _ c.before.before.before.if1.false)) (value_full c)
 
 words-of-runs-requires : tie.Need-words-of-runs-requires
 words-of-runs-requires c κs = c.before.before.before.legal.ensures.yes (not-false _ c.before.before.if1.false)
@@ -73,7 +73,7 @@ cast-t9 c =
 returns-3 : tie.Need-returns-3
 returns-3 c =
     let st = c.before.before.before.before in
-    measured-good (st.legal.ensures.yes (not-false _ c.before.before.before.if1.false)) (value_cut c)
+    measured_good (st.legal.ensures.yes (not-false _ c.before.before.before.if1.false)) (value_cut c)
 
 pub words-spec : {M : Type 1} → statement M
 words-spec =

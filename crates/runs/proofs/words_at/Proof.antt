@@ -4,7 +4,7 @@ use mathlib.Core.Bool.{true}
 use native.Mathlib.Omega.{arith}
 use borrow.Author.Rules.{rules}
 use Rattle.rules.specs.Wheels.{run, run_words, words_at}
-use Rattle.laws.specs.Counting.{stretch-le}
+use Rattle.laws.specs.Counting.{stretch_le}
 use Rattle.runs.specs.Steps.{as_wanted}
 use Rattle.runs.proofs.words_at.Statement.{statement}
 use Rattle.runs.proofs.words_at.Tie as tie
@@ -13,7 +13,7 @@ run-words-requires : tie.Need-run-words-requires
 run-words-requires c κs =
     let st = c.before.before.before in
     let a = st.args in
-    (st.requires.0, omega (arith, c.stretch.ensures, stretch-le (as_wanted a.w.n a.x true) a.w.n a.i))
+    (st.requires.0, omega (arith, c.stretch.ensures, stretch_le (as_wanted a.w.n a.x true) a.w.n a.i))
 
 returns : tie.Need-returns
 unfolding words_at run as_wanted

@@ -9,7 +9,7 @@ use lib.ListN.{length, get_or}
 use borrow.Author.Tests.{eq-eqb, ne_eqb}
 use Rattle.rules.specs.Sets.{sum}
 use Rattle.laws.specs.Counting.{sum_more}
-use Rattle.ledger.specs.Totals.{used, usedCells}
+use Rattle.ledger.specs.Totals.{used, used_cells}
 use Rattle.table.proofs.count_used.Statement.{statement}
 use Rattle.table.proofs.count_used.Tie as tie
 
@@ -41,7 +41,7 @@ loop-again c =
     c.if1.branch
 
 returns : tie.Need-returns invariant-loop decreases-loop
-unfolding usedCells
+unfolding used_cells
 returns c =
     let t = c.before.before.args.table.now in
     let all : c.before.loop.i ≡ length t = omega arith in

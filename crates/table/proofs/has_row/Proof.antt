@@ -2,15 +2,15 @@
 use native.Mathlib.Omega.{arith}
 use borrow.Author.Rules.{rules}
 use borrow.Author.Tests.{not-true, not-false, ltb-true, ltb-false}
-use Rattle.laws.specs.Logic.{tells-no}
+use Rattle.laws.specs.Logic.{tells_no}
 use Rattle.table.proofs.has_row.Statement.{statement}
 use Rattle.table.proofs.has_row.Tie as tie
 
 returns : tie.Need-returns
-returns c = tells-no (λ a. c.before.legal.ensures.no (not-true _ c.if1.true) a.legal)
+returns c = tells_no (λ a. c.before.legal.ensures.no (not-true _ c.if1.true) a.legal)
 
 returns-2 : tie.Need-returns-2
-returns-2 c = tells-no (λ a. c.before.is-table.ensures.no (not-true _ c.if2.true) a.tabled)
+returns-2 c = tells_no (λ a. c.before.is-table.ensures.no (not-true _ c.if2.true) a.tabled)
 
 returns-3 : tie.Need-returns-3
 returns-3 c =

@@ -8,7 +8,7 @@ use borrow.Author.Tests.{not-true, not-false}
 use borrow.Author.Count.{below_more}
 use Rattle.rules.specs.Sets.{has}
 use Rattle.rules.specs.Paths.{cell, seen}
-use Rattle.laws.specs.Logic.{tells-yes, tells-no}
+use Rattle.laws.specs.Logic.{tells_yes, tells_no}
 use Rattle.table.specs.Along.{row_room, rows_hold, hold_rows, seen_lent}
 use Rattle.table.proofs.holds.Statement.{statement}
 use Rattle.table.proofs.holds.Tie as tie
@@ -54,7 +54,7 @@ returns c =
     let at = row.before.before.loop in
     let s = row.before.before.before.before.before in
     let a = s.args in
-    tells-no
+    tells_no
     (λ f.
     c.before.row-holds.ensures.no (not-true _ c.if1.true)
     (record {
@@ -81,7 +81,7 @@ loop-again c =
 returns-2 : tie.Need-returns-2 invariant-loop decreases-loop
 returns-2 c =
     let a = c.before.before.before.before.args in
-    tells-yes (rows_hold a.chip a.table.now a.path a.len a.x a.v (λ p h. c.before.loop.invariant.1 p (omega arith)))
+    tells_yes (rows_hold a.chip a.table.now a.path a.len a.x a.v (λ p h. c.before.loop.invariant.1 p (omega arith)))
 
 pub holds-spec : {M : Type 1} → statement M
 holds-spec =

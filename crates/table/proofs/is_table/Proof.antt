@@ -2,15 +2,15 @@
 use native.Mathlib.Omega.{arith}
 use borrow.Author.Rules.{rules}
 use borrow.Author.Tests.{eqb-true, eqb-false}
-use Rattle.laws.specs.Logic.{tells-no}
+use Rattle.laws.specs.Logic.{tells_no}
 use Rattle.table.proofs.is_table.Statement.{statement}
 use Rattle.table.proofs.is_table.Tie as tie
 
 returns : tie.Need-returns
-returns c = tells-no (λ t. omega (arith, t.c1))
+returns c = tells_no (λ t. omega (arith, t.c1))
 
 returns-2 : tie.Need-returns-2
-returns-2 c = tells-no (λ t. omega (arith, t.c64))
+returns-2 c = tells_no (λ t. omega (arith, t.c64))
 
 returns-3 : tie.Need-returns-3
 returns-3 c =

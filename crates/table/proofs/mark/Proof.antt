@@ -4,7 +4,7 @@ use Prim.Native.Nat.{◌+◌, ◌-◌, ◌*◌, ◌≤◌}
 use native.Mathlib.Omega.{arith}
 use lib.ListN.{length, get_or, length-take, length-drop}
 use Rattle.rules.specs.Paths.{Stamped}
-use Rattle.ledger.specs.Stamps.{stamp-none}
+use Rattle.ledger.specs.Stamps.{stamp_none}
 use Rattle.table.specs.Along.{row_room, mark_turn}
 use Rattle.table.proofs.mark.Statement.{statement}
 use Rattle.table.proofs.mark.Tie as tie
@@ -16,7 +16,7 @@ abbrev decreases-loop : tie.decreases-loop
 decreases-loop table₀ chip path len x v w i₀ table i = len - i
 
 loop-holds : tie.Need-loop-init invariant-loop decreases-loop
-loop-holds c = let a = c.before.before.args in (omega arith, stamp-none a.chip a.path a.x a.v a.table.now)
+loop-holds c = let a = c.before.before.args in (omega arith, stamp_none a.chip a.path a.x a.v a.table.now)
 
 channel-requires : tie.Need-channel-requires invariant-loop decreases-loop
 channel-requires c κs = omega (arith, c.before.before.before.before.requires.1.fits)

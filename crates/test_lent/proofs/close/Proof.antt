@@ -37,8 +37,8 @@ use Rattle.lent.proofs.Callee.{Values, Good}
 use Rattle.lent.proofs.Slices.{over}
 use Rattle.lent.proofs.Loans.{Handle, slice_of, Mut}
 use Rattle.lent.proofs.Offers.{lends, calls}
-use Rattle.lent.proofs.Local.{records, lends-array}
-use Rattle.lent.proofs.Frames.{value, slice, lent-on, lent-local, array-on, Homes, home, Cell, empty, full, env, frame, allocates, leaves, held, pair, points, keeps, sets}
+use Rattle.lent.proofs.Local.{records, lends_array}
+use Rattle.lent.proofs.Frames.{value, slice, lent_on, lent_local, array_on, Homes, home, Cell, empty, full, env, frame, allocates, leaves, held, pair, points, keeps, sets}
 use Rattle.lent.proofs.Walked.Over.{Ends, ends, meets}
 use Rattle.jellyspire.proofs.Core.{cleared}
 use Rattle.jellyspire.proofs.Core as library
@@ -58,7 +58,7 @@ use Rattle.test_lent.proofs.close.Code.Mir as body
 
 abbrev locals : List Local
 locals = value ClearedList'.mir ++ (slice (named 0) mut u8 ++ (value (ty_array Record'.mir 16) ++ (value Wheel'.mir ++ (value (ty_int w64) ++
-    (lent-local (ty_array Record'.mir 16) ++ (value Cleared'.mir ++ (lent-on mut u8 ++ (array-on mut Rec 16 ++ value (ty_array Record'.mir 16)))))))))
+    (lent_local (ty_array Record'.mir 16) ++ (value Cleared'.mir ++ (lent_on mut u8 ++ (array_on mut Rec 16 ++ value (ty_array Record'.mir 16)))))))))
 
 module _ {M : Type 1} {𝓤 : Ura M} (𝓛 : Logic 𝓤) (𝓣 : Tables 𝓤 𝓛.H)
     (known-close : Triple 𝓤 (𝓣.C #jellyspire·close) (over 𝓛 (library.Close 𝓛)))
@@ -90,7 +90,7 @@ module _ {M : Type 1} {𝓤 : Ura M} (𝓛 : Logic 𝓤) (𝓣 : Tables 𝓤 �
         sets ! (addr ! (from ! (stop !))) refl (tt, tt) $
         sets ! (agg ! (and_then ! (held ! refl) (and_then ! (lit ! tt) (no_more !)))) refl (tt, (tt, (record { fits = lit< tt }, tt))) $
         calls ! fm (library.Close 𝓛) known-close
-        (lends 𝓛 u8 h t len 24, (lends-array 𝓛 16 (home locals bs 5) xs good.0 good.0.1.0.1 (lit< tt, lit< tt) 10, tt))
+        (lends 𝓛 u8 h t len 24, (lends_array 𝓛 16 (home locals bs 5) xs good.0 good.0.1.0.1 (lit< tt, lit< tt) 10, tt))
         (refl, (refl, tt)) (w, (f, tt)) (good.1.0, (good.1.1.0, tt)) (id⊢ 𝓤 (emp 𝓤))
         (λ _. and_then ! (held ! refl) (and_then ! (held ! refl) (and_then ! (held ! refl) (and_then ! (held ! refl) (no_more !)))))
         (λ r es is-r said learnt. let t' = es.0 in let zs = es.1.0 in let zs-are = learnt.1.0 in

@@ -39,8 +39,8 @@ use Rattle.lent.proofs.Callee.{Values, Good}
 use Rattle.lent.proofs.Slices.{over}
 use Rattle.lent.proofs.Loans.{Handle, slice_of, Mut}
 use Rattle.lent.proofs.Offers.{lends, calls}
-use Rattle.lent.proofs.Local.{records, lends-array}
-use Rattle.lent.proofs.Frames.{value, slice, lent-on, lent-local, array-on, Homes, home, Cell, empty, full, env, frame, allocates, leaves, held, pair, points, keeps, sets}
+use Rattle.lent.proofs.Local.{records, lends_array}
+use Rattle.lent.proofs.Frames.{value, slice, lent_on, lent_local, array_on, Homes, home, Cell, empty, full, env, frame, allocates, leaves, held, pair, points, keeps, sets}
 use Rattle.lent.proofs.Walked.Over.{Ends, ends, meets}
 use Rattle.jellyspire.proofs.Core.{opened}
 use Rattle.jellyspire.proofs.Core as library
@@ -61,7 +61,7 @@ use Rattle.test_lent.proofs.open.Code.Mir as body
 abbrev locals : List Local
 locals = value OpenedList'.mir ++ (slice (named 0) mut u8 ++
     (value (ty_array Record'.mir 16) ++ (value Wheel'.mir ++ (value (ty_int w64) ++ (value (ty_array (ty_int w16) 16) ++ (value (ty_int w64) ++ (value Demand'.mir ++
-    (lent-local (ty_array Record'.mir 16) ++ (value Opened'.mir ++ (lent-on mut u8 ++ (array-on mut Rec 16 ++ value (ty_array Record'.mir 16))))))))))))
+    (lent_local (ty_array Record'.mir 16) ++ (value Opened'.mir ++ (lent_on mut u8 ++ (array_on mut Rec 16 ++ value (ty_array Record'.mir 16))))))))))))
 
 module _ {M : Type 1} {𝓤 : Ura M} (𝓛 : Logic 𝓤) (𝓣 : Tables 𝓤 𝓛.H)
     (known-open : Triple 𝓤 (𝓣.C #jellyspire·open) (over 𝓛 (library.Open 𝓛)))
@@ -94,7 +94,7 @@ module _ {M : Type 1} {𝓤 : Ura M} (𝓛 : Logic 𝓤) (𝓣 : Tables 𝓤 �
         sets ! (addr ! (from ! (stop !))) refl (tt, tt) $
         sets ! (agg ! (and_then ! (held ! refl) (and_then ! (lit ! tt) (no_more !)))) refl (tt, (tt, (record { fits = lit< tt }, tt))) $
         calls ! fm (library.Open 𝓛) known-open
-        (lends 𝓛 u8 h t len 30, (lends-array 𝓛 16 (home locals bs 8) xs good.0 good.0.1.0.1 (lit< tt, lit< tt) 16, tt)) (refl, (refl, tt))
+        (lends 𝓛 u8 h t len 30, (lends_array 𝓛 16 (home locals bs 8) xs good.0 good.0.1.0.1 (lit< tt, lit< tt) 16, tt)) (refl, (refl, tt))
         (w, (f, (p, (m, (d, tt))))) (good.1.0, (good.1.1.0, (good.1.1.1.0, (good.1.1.1.1.0, (good.1.1.1.1.1.0, tt))))) (id⊢ 𝓤 (emp 𝓤))
         (λ _. and_then ! (held ! refl) (and_then ! (held ! refl)
         (and_then ! (held ! refl) (and_then ! (held ! refl) (and_then ! (held ! refl) (and_then ! (held ! refl) (and_then ! (held ! refl) (no_more !))))))))

@@ -32,8 +32,8 @@ use Rattle.lent.proofs.Callee.{Good}
 use Rattle.lent.proofs.Slices.{over}
 use Rattle.lent.proofs.Loans.{Handle, slice_of, Shr}
 use Rattle.lent.proofs.Offers.{passes, calls}
-use Rattle.lent.proofs.Local.{records, shows-array}
-use Rattle.lent.proofs.Frames.{value, slice, lent-local, array-on, Homes, home, Cell, empty, full, env, frame, allocates, leaves, held, keeps, sets}
+use Rattle.lent.proofs.Local.{records, shows_array}
+use Rattle.lent.proofs.Frames.{value, slice, lent_local, array_on, Homes, home, Cell, empty, full, env, frame, allocates, leaves, held, keeps, sets}
 use Rattle.lent.proofs.Walked.Over.{Ends, ends, meets}
 use Rattle.jellyspire.proofs.Core.{reported}
 use Rattle.jellyspire.proofs.Core as library
@@ -49,7 +49,7 @@ use Rattle.test_lent.proofs.report.Code.Mir as body
 
 abbrev locals : List Local
 locals = value Reported'.mir ++ (slice (named 0) imm u8 ++
-    (value (ty_array Record'.mir 16) ++ (value Wheel'.mir ++ (lent-local (ty_array Record'.mir 16) ++ array-on imm Rec 16))))
+    (value (ty_array Record'.mir 16) ++ (value Wheel'.mir ++ (lent_local (ty_array Record'.mir 16) ++ array_on imm Rec 16))))
 
 module _ {M : Type 1} {𝓤 : Ura M} (𝓛 : Logic 𝓤) (𝓣 : Tables 𝓤 𝓛.H)
     (known-report : Triple 𝓤 (𝓣.C #jellyspire·report) (over 𝓛 (library.Report 𝓛))) where
@@ -67,7 +67,7 @@ module _ {M : Type 1} {𝓤 : Ura M} (𝓛 : Logic 𝓤) (𝓣 : Tables 𝓤 �
         sets ! (addr ! (from ! (stop !))) refl (tt, tt) $
         sets ! (agg ! (and_then ! (held ! refl) (and_then ! (lit ! tt) (no_more !)))) refl (tt, (tt, (record { fits = lit< tt }, tt))) $
         calls ! (fm_of 𝓤 H 𝓛.laws 𝓣) (library.Report 𝓛) known-report
-        (passes 𝓛 u8 h t 14, (shows-array 𝓛 16 (home locals bs 4) xs good.0 good.0.1.0.1 (lit< tt, lit< tt) 8, tt))
+        (passes 𝓛 u8 h t 14, (shows_array 𝓛 16 (home locals bs 4) xs good.0 good.0.1.0.1 (lit< tt, lit< tt) 8, tt))
         (refl, (refl, tt)) (w, tt) (good.1.0, tt) (id⊢ 𝓤 (emp 𝓤))
         (λ _. and_then ! (held ! refl) (and_then ! (held ! refl) (and_then ! (held ! refl) (no_more !)))) (λ r _ is-r said _.
         keeps ! refl ((reported 𝓛).typed r is-r).0 $
