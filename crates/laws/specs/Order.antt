@@ -1,14 +1,30 @@
 -- Rule 6's order: of two sets at most one is better, so at most one set is Best.
-use Rattle.std.specs.Prelude.{◌≡◌, List, ◌⊎◌, ℕ}
+use Rattle.std.specs.Prelude.{◌≡◌, refl, List, ◌⊎◌, ℕ}
 use Rattle.std.proofs.Common.{sym, inl, inr, arith}
 use Rattle.rules.specs.declared.Wheel.{Wheel}
 use Rattle.rules.specs.Best.{Before, here, later, Better, fewer, more, sooner, closer, Best}
 
+-- the same at two pairs of lists that are equal, so that an induction can go over both
+before_apart : {us vs us' vs' : List ℕ} → Before us vs → Before vs' us' → us ≡ us' → vs ≡ vs' → ⊥
+before_apart (here {a = a} {b = b} h) (here {a = a'} {b = b'} k) e f =
+    let p : a ≡ b' = cc in
+    let q : b ≡ a' = cc in
+    omega arith
+before_apart (here {a = a} {b = b} h) (later {a = c} k) e f =
+    let p : a ≡ c = cc in
+    let q : b ≡ c = cc in
+    omega arith
+before_apart (later {a = c} p) (here {a = a'} {b = b'} k) e f =
+    let p : c ≡ b' = cc in
+    let q : c ≡ a' = cc in
+    omega arith
+before_apart (later {us = us} {vs = vs} p) (later {us = vs'} {vs = us'} q) e f =
+    let r : us ≡ us' = cc in
+    let t : vs ≡ vs' = cc in
+    before_apart p q r t
+
 before_asym : {us vs : List ℕ} → Before us vs → Before vs us → ⊥
-before_asym (here h) (here k) = omega arith
-before_asym (here h) (later q) = omega arith
-before_asym (later p) (here k) = omega arith
-before_asym (later p) (later q) = before_asym p q
+before_asym p q = before_apart p q refl refl
 
 pub better_asym : (w : Wheel) (x y : ℕ) → Better w x y → Better w y x → ⊥
 better_asym w x y (fewer a) (fewer b) = omega arith
