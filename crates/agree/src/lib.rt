@@ -2,6 +2,8 @@
 // record obeys its own rules and that each cell that it claims holds its number, and then one look at
 // the whole table. Since claims that all hold their own numbers are distinct, the table has no stray
 // cell exactly if as many of its cells are used as the records claim.
+#![tactic(auto)]
+
 ghost use Rattle.std.specs.Prelude.{◌≡◌, true, ◌*◌, ◌≤◌, ◌<◌};
 ghost use Rattle.rules.specs.Tells.{Tells};
 ghost use Rattle.rules.specs.Wheels.{Legal};
@@ -13,7 +15,7 @@ ghost use Rattle.agree.specs.Checks.{Steps};
 use rules::{Chip, Record};
 
 // What the check has found so far: whether all is well, and how many cells the records claim.
-#[derive(Drop)]
+#[derive(Clone, Copy)]
 pub struct Checked {
     pub ok: bool,
     pub held: usize,

@@ -1,5 +1,7 @@
 // One line of the listing: read, carried out on table and list, and answered. The list is lent as the
 // bytes of 16 records, so that the calls are those of the archive.
+#![tactic(auto)]
+
 ghost use Rattle.std.specs.Prelude.{◌≡◌, ◌+◌, ◌≤◌, ◌<◌, length};
 ghost use Rattle.grammar.specs.Listing.{wheel};
 ghost use Rattle.answering.specs.Lines.{state, OpenLine, CloseLine, ReportLine, Lined, Fed};

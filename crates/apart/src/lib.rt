@@ -1,11 +1,13 @@
 // The measures of a set and bare selection, counted apart: from document 01 alone, with none of the
 // library's code and by other methods, so that tests can hold the two against each other. All
 // numbers are plain: n, s, h and p are the wheel, and bit i of a set is its slot i.
+#![tactic(auto)]
+
 ghost use Rattle.std.specs.Prelude.{◌≡◌, ◌+◌, ◌≤◌, max};
 
 // What `search` answers: `no` is 0 for a grant, and else a refusal's number beside zeros; 99 where
 // the wheel is too large to go through its sets.
-#[derive(Drop)]
+#[derive(Clone, Copy)]
 pub struct Found {
     pub no: u64,
     pub slots: u64,

@@ -1,5 +1,7 @@
 // A bound without tables: how many words a number of slots delivers at most, and so how few slots
 // may do and when a start cannot win.
+#![tactic(auto)]
+
 ghost use Rattle.std.specs.Prelude.{◌≡◌, true, ℕ, ◌+◌, ◌-◌, ◌*◌, ◌<◌, ◌≤◌};
 ghost use Rattle.line.specs.Tables.{Sound};
 ghost use Rattle.line.specs.Bound.{Paid};

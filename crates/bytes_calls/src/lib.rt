@@ -1,5 +1,7 @@
 // The calls with the flow list lent as bytes (`bytes_list`). The list is never copied: each record is
 // read where it stands, and a grant writes the 64 bytes of one.
+#![tactic(auto)]
+
 ghost use Rattle.std.specs.Prelude.{◌≡◌, true, ◌+◌, ◌*◌, ◌≤◌, length};
 ghost use Rattle.rules.specs.Tells.{Tells};
 ghost use Rattle.rules.specs.Paths.{chip_of};

@@ -1,6 +1,8 @@
 // The flow list as bytes, for callers that lend it as such: 64 for each record, which are 32 numbers
 // of 16 bits, low byte first (docs/RECORD.md). A record is read straight from its bytes, and bytes
 // that are no record are read as one that agrees with no table.
+#![tactic(auto)]
+
 ghost use Rattle.std.specs.Prelude.{◌≡◌, ◌+◌, ◌%◌, ◌/◌, ◌≤◌, ◌<◌, length, set};
 ghost use Rattle.rules.specs.Sets.{all};
 ghost use Rattle.bytes_list.specs.Layout.{count_of, number_at, numbers_at, known_state, is_zero, formed, state_from, path_from, slots_from, decoded, state_number, slots_number, number_of, Written};

@@ -1,5 +1,7 @@
 // What a call changes, as values: the records of open and closed flows, the cells and the record that a
 // yes puts in place, and opening and closing as calls. Nothing is read or written here.
+#![tactic(auto)]
+
 ghost use Rattle.std.specs.Prelude.{◌≡◌, []};
 ghost use Rattle.rules.specs.Paths.{trimmed};
 ghost use Rattle.rules.specs.Orders.{opening, closing};

@@ -1,4 +1,6 @@
 // The listing program on descriptors: what it reads and where it prints.
+#![tactic(auto)]
+
 ghost use Rattle.std.specs.Prelude.{◌<◌, length};
 
 use libc::STDOUT_FILENO;

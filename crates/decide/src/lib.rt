@@ -1,6 +1,8 @@
 // What a call is answered, decided with the table only lent to read: nothing is written here. The
 // decision sees one record of the list and is told of the rest whether it agrees with the table, so
 // that it serves every form of the list.
+#![tactic(auto)]
+
 ghost use Rattle.std.specs.Prelude.{◌≡◌, true, false, List, ℕ, ◌≤◌};
 ghost use Rattle.rules.specs.Wheels.{Legal};
 ghost use Rattle.rules.specs.Flows.{Own};
@@ -11,7 +13,7 @@ ghost use Rattle.decide.specs.Decisions.{Gates, of_selected, DecidesOwn, Decides
 use rules::{Answer, Call, Chip, Demand, Record, Refusal, Selected, Verb, Yes};
 
 // What every call on a table asks first: 1, 2, 3 and 4.
-#[derive(Drop)]
+#[derive(Clone, Copy)]
 pub enum Gate {
     Shut(Refusal),
     Through,

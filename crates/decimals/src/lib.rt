@@ -1,12 +1,14 @@
 // Decimals: a number in a line, and the numbers that a line ends with. Whatever is not spelled exactly
 // as document 01 says is none: leading zeros, signs, numbers above 65535, a second space, a tab.
+#![tactic(auto)]
+
 ghost use Rattle.std.specs.Prelude.{◌≡◌, false, length, drop};
 ghost use Rattle.grammar.specs.Decimals.{leading};
 ghost use Rattle.grammar.specs.Decimals.{digit as Digit·of};
 ghost use Rattle.decimals.specs.Meaning.{Numbered, Split};
 
 // A number in a line: whether there is one, its value, and the place after it.
-#[derive(Drop)]
+#[derive(Clone, Copy)]
 pub struct Number {
     pub found: bool,
     pub value: u16,
@@ -15,7 +17,7 @@ pub struct Number {
 
 // The numbers that a line ends with: whether it is nothing but numbers, each after a space, and
 // their values.
-#[derive(Drop)]
+#[derive(Clone, Copy)]
 pub struct Fields {
     pub good: bool,
     pub values: [u16; 19],

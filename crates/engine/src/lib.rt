@@ -1,6 +1,8 @@
 // The engine of selection: the best set of free slots, by a search over the starts. At each start
 // the wheel is a line whose tables say what it is worth; a start that by a simple bound cannot win
 // is passed over, and a later start wins only if it is strictly better.
+#![tactic(auto)]
+
 ghost use Rattle.std.specs.Prelude.{◌≡◌};
 ghost use Rattle.rules.specs.Wheels.{Legal, words};
 ghost use Rattle.rules.specs.Promises.{Grants};

@@ -1,4 +1,6 @@
 // How many starts the search has to try.
+#![tactic(auto)]
+
 ghost use Rattle.std.specs.Prelude.{◌≡◌, true, ◌+◌, ◌<◌};
 ghost use Rattle.rules.specs.Sets.{has};
 ghost use Rattle.line.specs.Tables.{Sound};

@@ -2,11 +2,13 @@
 // is cut open at each start in turn, and choices of 1, 2, 3, .. slots are built from the end, run by
 // run. Each entry of the table holds the best choice itself and not its worth alone, so that nothing
 // is traced back. It is held against the search through all sets in test_apart.
+#![tactic(auto)]
+
 use apart::Found;
 
 // The wheel cut open at a start: position i is i slots after it, and `free` names the free positions.
 // Position 0 is taken and the last one is not.
-#[derive(Drop)]
+#[derive(Clone, Copy)]
 struct Cut {
     n: u64,
     s: u64,
@@ -19,14 +21,14 @@ struct Cut {
 // A choice of positions: its words, and its image, in which position i is bit 63 - i. Of two choices
 // of as many positions, the larger image has the smaller position where they first differ. Every
 // choice delivers words: no words stand for no choice.
-#[derive(Drop)]
+#[derive(Clone, Copy)]
 struct Choice {
     words: u64,
     image: u64,
 }
 
 // What was found: how many slots, their words, and the slots.
-#[derive(Drop)]
+#[derive(Clone, Copy)]
 struct Best {
     count: u64,
     words: u64,

@@ -3,6 +3,8 @@
 // yes into the array that it is lent; a no leaves every lent byte as it was, the array too. The flow
 // list is lent as bytes, 64 for each record (docs/RECORD.md). What users call stands in
 // include/jellyspire.h.
+#![tactic(auto)]
+
 ghost use Rattle.std.specs.Prelude.{◌≡◌, min, length};
 ghost use Rattle.rules.specs.Paths.{chip_of};
 ghost use Rattle.rules.specs.Numbers.{number};

@@ -1,5 +1,7 @@
 // Rows of a table, worked through entry by entry: each function changes the m entries from `at` on
 // and leaves the others as they are.
+#![tactic(auto)]
+
 ghost use Rattle.std.specs.Prelude.{ℕ, ◌+◌, ◌<◌, ◌≤◌, max, length, get_or};
 ghost use Rattle.line.specs.Rows.{Filled, Lifted, Raised};
 

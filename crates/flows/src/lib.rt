@@ -1,5 +1,7 @@
 // The tests of a path and of one record of the flow list: is every entry a channel, does none stand
 // twice, are unused entries zero, does the record obey its own rules.
+#![tactic(auto)]
+
 ghost use Rattle.std.specs.Prelude.{◌≡◌, ◌≤◌, ◌<◌};
 ghost use Rattle.rules.specs.Tells.{Tells};
 ghost use Rattle.rules.specs.Wheels.{Legal};

@@ -1,4 +1,6 @@
 // The heads of one position: what a packet that begins there and all that follows it come to.
+#![tactic(auto)]
+
 ghost use Rattle.std.specs.Prelude.{◌≡◌, ℕ, ◌+◌, ◌-◌, ◌*◌, ◌<◌, ◌≤◌, min};
 ghost use Rattle.line.specs.Tables.{Sound, entry, pack_most};
 ghost use Rattle.line.specs.Rows.{Filled, HeadRow, Held};

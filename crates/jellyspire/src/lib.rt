@@ -1,6 +1,8 @@
 // The library that others link, over a table and a list that the caller lends. A call reads the list
 // record by record and never copies it; a refusal has written nothing, and a grant or a closing
 // replaces the record of its flow and no other.
+#![tactic(auto)]
+
 ghost use Rattle.std.specs.Prelude.{◌≡◌, true, ◌*◌, ◌≤◌, ◌<◌};
 ghost use Rattle.rules.specs.Tells.{Tells};
 ghost use Rattle.rules.specs.Wheels.{Legal};

@@ -1,5 +1,7 @@
 // One record of a list that the caller lends: read it, and put another in its place. Both take every
 // index; past the end of the list nothing is read and nothing is written.
+#![tactic(auto)]
+
 ghost use Rattle.std.specs.Prelude.{◌≡◌};
 ghost use Rattle.lent.specs.Lists.{record_at, replaced_if};
 

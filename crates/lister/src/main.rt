@@ -1,4 +1,6 @@
 // The listing program: lists standard input.
+#![tactic(auto)]
+
 use libc::STDIN_FILENO;
 
 fn main() {

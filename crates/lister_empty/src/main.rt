@@ -1,4 +1,6 @@
 // The listing program on an empty input.
+#![tactic(auto)]
+
 use libc::STDIN_FILENO;
 
 fn main() {

@@ -1,4 +1,6 @@
 // The listing program on exactly 4,096 bytes.
+#![tactic(auto)]
+
 use libc::STDIN_FILENO;
 
 fn main() {

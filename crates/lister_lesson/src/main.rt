@@ -1,4 +1,6 @@
 // The listing program on the lesson of docs/COURSE.md.
+#![tactic(auto)]
+
 use libc::STDIN_FILENO;
 
 fn main() {

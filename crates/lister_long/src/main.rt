@@ -1,4 +1,6 @@
 // The listing program on 4,097 bytes, one too many.
+#![tactic(auto)]
+
 use libc::STDIN_FILENO;
 
 fn main() {

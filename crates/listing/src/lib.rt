@@ -1,12 +1,14 @@
 // The listing program's work: from the bytes that it reads to the bytes that it prints. Table and
 // list start empty; every line is read, carried out and answered before the next (`answering`).
+#![tactic(auto)]
+
 ghost use Rattle.std.specs.Prelude.{◌≡◌, ◌+◌, ◌*◌, ◌≤◌, ◌<◌, length, replicate};
 ghost use Rattle.grammar.specs.Listing.{Writes};
 ghost use Rattle.answering.specs.Lines.{state};
 ghost use Rattle.listing.specs.Runs.{Room, Turned, Ran};
 
 // What a turn leaves: where the next line starts, and the place after what was printed.
-#[derive(Drop)]
+#[derive(Clone, Copy)]
 struct Round {
     next: usize,
     place: usize,

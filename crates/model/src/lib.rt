@@ -2,6 +2,8 @@
 // docs/RECORD.md alone, with none of the library's code and in plain numbers. It decides for any
 // bytes and any lengths whether table and list agree: the table is painted anew from the list
 // (rule 7), and every byte must be as painted.
+#![tactic(auto)]
+
 ghost use Rattle.std.specs.Prelude.{◌≡◌, ◌≤◌, length};
 
 use apart::Found;
@@ -25,7 +27,7 @@ const REST: u64 = 24;
 const END: u64 = 32;
 
 // The calls over table and list.
-#[derive(Drop)]
+#[derive(Clone, Copy)]
 pub enum Call {
     Open,
     Close,
@@ -35,7 +37,7 @@ pub enum Call {
 
 // What a call is given beside the bytes: the wheel, of how many bytes table and list are, and what
 // is asked. Closing reads only the flow of the last five, and the others nothing.
-#[derive(Drop)]
+#[derive(Clone, Copy)]
 pub struct Asked {
     pub n: u64,
     pub s: u64,
@@ -52,7 +54,7 @@ pub struct Asked {
 
 // What a call answers: the number of its no beside zeros; or 0 and the values of the yes, in the
 // order of document 01: slots, their number and words; cleared cells; free and held cells.
-#[derive(Drop)]
+#[derive(Clone, Copy)]
 pub struct Reply {
     pub no: u64,
     pub one: u64,

@@ -1,4 +1,6 @@
 // The numbers of a no, for callers that count refusals instead of naming them.
+#![tactic(auto)]
+
 ghost use Rattle.std.specs.Prelude.{◌≡◌};
 ghost use Rattle.rules.specs.Numbers.{number};
 

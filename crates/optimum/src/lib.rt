@@ -1,11 +1,13 @@
 // From the line back to the wheel: what the best choices of the lines at all starts say about the
 // best set of rule 6. There is no function here, only what a search has found; the argument stands
 // in `specs/`.
+#![tactic(auto)]
+
 use rules::PathSlot;
 
 // The best choice so far: how many slots, its value, its start and its set. A value is the words
 // plus one; it is 0 while nothing is found, and `count` is then N.
-#[derive(Drop)]
+#[derive(Clone, Copy)]
 pub struct Found {
     pub count: usize,
     pub value: u16,

@@ -1,6 +1,8 @@
 // A call on one flow, carried out: what was decided is written into the table, and the record that goes
 // into the list is handed back. A refusal has written nothing. The list itself is not seen here: each
 // form of it reads a record, calls this, and puts the new record in its place.
+#![tactic(auto)]
+
 ghost use Rattle.std.specs.Prelude.{◌≡◌, true, false, ◌-◌, ◌≤◌};
 ghost use Rattle.rules.specs.Flows.{Own};
 ghost use Rattle.perform.specs.Performed.{is_done, Markable, MarksIf, PerformsOne, ReportsOne};
@@ -9,7 +11,7 @@ use decide::Gate;
 use rules::{Answer, Call, Change, Chip, Record, Reported, Totals};
 
 // What was done for a call: the answer, and, if `go`, which record of the list to replace by what.
-#[derive(Drop)]
+#[derive(Clone, Copy)]
 pub struct Decision {
     pub answer: Answer,
     pub go: bool,

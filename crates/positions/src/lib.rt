@@ -1,5 +1,7 @@
 // The positions of the line at one start: which may be chosen, how long a run may begin there, and
 // what a packet there is worth. A value is the words plus one, and 0 for what cannot be.
+#![tactic(auto)]
+
 ghost use Rattle.std.specs.Prelude.{◌≡◌, ◌+◌, ◌<◌, ◌≤◌, min, max};
 ghost use Rattle.line.specs.Values.{raised};
 ghost use Rattle.line.specs.Packets.{packet_words, opens};

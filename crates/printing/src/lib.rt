@@ -1,4 +1,6 @@
 // Printing: the text of each answer at a place of a buffer, written as `texts` writes.
+#![tactic(auto)]
+
 ghost use Rattle.std.specs.Prelude.{◌≡◌, ◌+◌, ◌≤◌, length};
 ghost use Rattle.rules.specs.Numbers.{number};
 ghost use Rattle.grammar.specs.Answers.{open_text, close_text, report_text, bad_text};

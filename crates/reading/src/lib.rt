@@ -1,6 +1,8 @@
 // Reading: the lines of a text one by one, and a line as a command. Whatever is not spelled exactly
 // as document 01 says is bad: a word that is no command, a number that is none, more than 16
 // channels, anything after the last field.
+#![tactic(auto)]
+
 ghost use Rattle.std.specs.Prelude.{◌≡◌, ◌-◌, ◌≤◌, ◌<◌, length, drop};
 ghost use Rattle.rules.specs.Tells.{Tells};
 ghost use Rattle.rules.specs.Paths.{trimmed};
@@ -9,14 +11,14 @@ ghost use Rattle.reading.specs.Meaning.{Next, Begins, bare, neither, Means};
 ghost use Rattle.reading.specs.Verbs.{open_bytes, close_bytes, report_bytes};
 
 // A line's end, and where the next line starts.
-#[derive(Drop)]
+#[derive(Clone, Copy)]
 pub struct Span {
     pub end: usize,
     pub next: usize,
 }
 
 // What a line asks for.
-#[derive(Drop)]
+#[derive(Clone, Copy)]
 pub enum Verb {
     Open,
     Close,
@@ -25,7 +27,7 @@ pub enum Verb {
 }
 
 // A line that was read. What its verb does not use is 0.
-#[derive(Drop)]
+#[derive(Clone, Copy)]
 pub struct Parsed {
     pub verb: Verb,
     pub flow: u16,

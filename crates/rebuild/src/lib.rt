@@ -1,5 +1,7 @@
 // The set behind a value. The tables say how much the best choice is worth; going through them
 // packet by packet gives the first of the choices that are worth as much (rule 6).
+#![tactic(auto)]
+
 ghost use Rattle.std.specs.Prelude.{◌≡◌, true, false, ℕ, ◌+◌, ◌-◌, ◌*◌, ◌^◌, ◌<◌, ◌≤◌, length, get_or};
 ghost use Rattle.line.specs.Values.{raised};
 ghost use Rattle.line.specs.Packets.{packet_words};
@@ -92,7 +94,7 @@ fn goes_on(heads: &[u16], task: Task, p: usize, f: usize, k: usize, v: u16) -> b
 
 // How far the rebuilding has come: the set so far, the position of the next packet, and how many
 // slots are left to take.
-#[derive(Drop)]
+#[derive(Clone, Copy)]
 struct Spot {
     slots: u64,
     p: usize,

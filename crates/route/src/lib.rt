@@ -1,5 +1,7 @@
 // Where a flow is along its path: which channel stands at a position, how many slots later the flow is
 // there than at its first channel, and how many slots the whole path takes.
+#![tactic(auto)]
+
 ghost use Rattle.std.specs.Prelude.{◌≡◌, ◌%◌, ◌≤◌, ◌<◌, get_or};
 ghost use Rattle.rules.specs.Wheels.{Legal};
 ghost use Rattle.rules.specs.Paths.{shift, travel};

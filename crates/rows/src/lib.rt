@@ -1,5 +1,7 @@
 // One channel's row: its 64 bytes are lent as a part of the table, and the flow that is asked about is
 // k slots later here than at its path's first channel. Nothing here knows paths or other rows.
+#![tactic(auto)]
+
 ghost use Rattle.std.specs.Prelude.{◌≡◌, true, ◌≤◌, ◌<◌, length};
 ghost use Rattle.rules.specs.Tells.{Tells};
 ghost use Rattle.rules.specs.Sets.{set_of};

@@ -1,6 +1,8 @@
 // What the runs of a set of slots come to: its size, its words (rule 2) and its largest gap (rule 3).
 // Each takes every wheel and every set; for a wheel outside its ranges it answers 0, and slots from N
 // on are passed over.
+#![tactic(auto)]
+
 ghost use Rattle.std.specs.Prelude.{◌≡◌, cond, not, ◌+◌, ◌-◌, ◌%◌, ◌≤◌, ◌<◌, max};
 ghost use Rattle.rules.specs.Sets.{has, sum, stretch};
 ghost use Rattle.rules.specs.Wheels.{Legal, Measured, size, run_words, words_at, words, gap_at, largest_gap};

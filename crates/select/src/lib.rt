@@ -1,4 +1,6 @@
 // Bare selection: the best set of the free slots that the caller names, or the reason for a no.
+#![tactic(auto)]
+
 ghost use Rattle.rules.specs.Promises.{Selects};
 
 use rules::{Refusal, Selected, Wheel, Words};

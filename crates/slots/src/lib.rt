@@ -1,4 +1,6 @@
 // The tests of a wheel and of a set of slots that every call begins with.
+#![tactic(auto)]
+
 ghost use Rattle.std.specs.Prelude.{◌≡◌, ◌<◌};
 ghost use Rattle.rules.specs.Tells.{Tells};
 ghost use Rattle.rules.specs.Sets.{has, Below};

@@ -1,5 +1,7 @@
 // The starts of a set of slots, and the smallest of them (rule 6). For a wheel outside its ranges the
 // answer is 0, and slots from N on are passed over.
+#![tactic(auto)]
+
 ghost use Rattle.std.specs.Prelude.{◌≡◌, ◌+◌, ◌-◌, ◌%◌, ◌≤◌, ◌<◌};
 ghost use Rattle.rules.specs.Wheels.{Measured, start};
 ghost use Rattle.rules.specs.Best.{smallest_start};

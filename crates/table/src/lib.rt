@@ -1,5 +1,7 @@
 // The slot table: 64 bytes for each channel, channel c from byte 64 × c on. Everything that is done
 // along a path is done row by row: the row of each channel is lent to a leaf that reads or writes it.
+#![tactic(auto)]
+
 ghost use Rattle.std.specs.Prelude.{◌≡◌, ◌≤◌, ◌<◌};
 ghost use Rattle.rules.specs.Tells.{Tells};
 ghost use Rattle.rules.specs.Wheels.{Legal};

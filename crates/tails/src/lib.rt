@@ -1,4 +1,6 @@
 // The tails of one position: what can follow a run that has ended there.
+#![tactic(auto)]
+
 ghost use Rattle.std.specs.Prelude.{◌≡◌, ◌+◌, ◌-◌, ◌*◌, ◌<◌, ◌≤◌, leb};
 ghost use Rattle.line.specs.Values.{or_none};
 ghost use Rattle.line.specs.Tables.{Sound, most_of};

@@ -1,12 +1,14 @@
 // Runs the searches written apart on what document 01 says of bare selection, so that they can be
 // trusted where the library is held against them. A path of one channel: the largest allowed gap is
 // one less than the deadline.
+#![tactic(auto)]
+
 use apart::Found;
 use libc::STDOUT_FILENO;
 
 // How many searches were run, how many granted a set, how many were refused by 13 and by 14, and
 // the sums of the granted sets, as numbers, and of their words.
-#[derive(Drop)]
+#[derive(Clone, Copy)]
 struct Sums {
     searches: u64,
     granted: u64,

@@ -5,6 +5,8 @@
 // a bare selection among random free slots. The sequences are fixed: what is checked is how many calls
 // there were, by the numbers in `small` and `large`, that nothing differs, and that each number of
 // opening and closing that needs no damage was given.
+#![tactic(auto)]
+
 ghost use Rattle.std.specs.Prelude.{◌≡◌, length};
 
 use model::{Asked, Call};
@@ -219,7 +221,7 @@ fn selected(t: Tally, a: Asked, seed: u64) -> Tally {
 
 // What was counted of a sequence: its calls, those that were damaged, bare selections, and the
 // numbers given to its calls, as a set.
-#[derive(Drop)]
+#[derive(Clone, Copy)]
 struct Counts {
     calls: Tally,
     damaged: Tally,

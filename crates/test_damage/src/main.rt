@@ -3,12 +3,14 @@
 // list still agree. A table with a changed byte never does. In the list it may: words that the flow's
 // slots still deliver and a deadline that they still keep are no damage, and the call goes on. How
 // many calls are refused by 4 was counted apart, from docs/RECORD.md and document 01's rules.
+#![tactic(auto)]
+
 use model::Asked;
 use trial::{Hit, Tally};
 
 // What is changed: a byte of the table, a byte of the list, or the low byte of a record's words or of
 // its deadline.
-#[derive(Drop)]
+#[derive(Clone, Copy)]
 enum Kind {
     Table,
     List,

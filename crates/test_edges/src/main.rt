@@ -3,6 +3,8 @@
 // deadline, and the rows. A deadline of the path's length gives 12; one more, on a free table, grants
 // the full wheel if that has the words. Every line counts the calls, as many as the loops make, and
 // those that did not do what they must.
+#![tactic(auto)]
+
 use model::{Asked, Call};
 use trial::{Hit, Tally};
 

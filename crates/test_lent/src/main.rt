@@ -3,6 +3,8 @@
 // list from before the call are written down as bytes, and the model does the same call there. Rows
 // and bare selection run too. A program has its list by value: sixteen records, lent whole for each
 // call.
+#![tactic(auto)]
+
 ghost use Rattle.std.specs.Prelude.{◌≡◌, length};
 ghost use Rattle.rules.specs.Tells.{Tells};
 ghost use Rattle.rules.specs.Paths.{chip_of};
@@ -14,14 +16,14 @@ use model::{Asked, Call, Reply};
 use rules::{Cleared, Demand, Opened, Record, Refusal, Reported, Selected, State, Wheel, Words};
 
 // The answer of an opening, and the list afterwards.
-#[derive(Drop)]
+#[derive(Clone, Copy)]
 struct OpenedList {
     answer: Opened,
     list: [Record; 16],
 }
 
 // The answer of a closing, and the list afterwards.
-#[derive(Drop)]
+#[derive(Clone, Copy)]
 struct ClearedList {
     answer: Cleared,
     list: [Record; 16],

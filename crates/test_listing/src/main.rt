@@ -1,5 +1,7 @@
 // Runs the listing on every case that the arguments name, and prints the name before each. The
 // cases and what is expected of them were made outside, by no program of ours.
+#![tactic(auto)]
+
 use libc::STDOUT_FILENO;
 
 // One case: its name, and its listing.

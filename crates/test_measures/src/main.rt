@@ -1,11 +1,13 @@
 // Holds the measures of a set against counts written apart: on all sets of small wheels, on wheels
 // outside their ranges, on sets with slots beyond the wheel, and on the examples by which document
 // 01 shows two mistakes of trainees. Every line counts what was tried and what differed.
+#![tactic(auto)]
+
 use libc::STDOUT_FILENO;
 use rules::{Wheel, Words};
 
 // How many cases were tried, and in how many of them the two sides differed.
-#[derive(Drop)]
+#[derive(Clone, Copy)]
 struct Tally {
     tried: u64,
     differ: u64,
@@ -124,7 +126,7 @@ fn right(w: Wheel, x: u64) -> bool {
 }
 
 // Which count the library's is held against: that of the rules, or one of the trainees' mistakes.
-#[derive(Drop)]
+#[derive(Clone, Copy)]
 enum Against {
     Rules,
     HeaderAtWrap,

@@ -3,6 +3,8 @@
 // order that can hold beside it: the first of the two numbers must be given, with zeros beside it,
 // and every byte of table and list stay. The orders are written down here. A line for each number of
 // an order counts the calls that must give it; how many these are follows from the ways below.
+#![tactic(auto)]
+
 use model::{Asked, Call};
 use trial::{Hit, Tally};
 

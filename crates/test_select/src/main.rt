@@ -2,13 +2,15 @@
 // refusals that meet, and on every free set of small wheels with every number of words and every
 // limit; there the exact search, which other tests use above N 10, is held against the search through
 // all sets too. A selection is printed as a set in decimals, how many slots, and words; or as a no.
+#![tactic(auto)]
+
 use apart::Found;
 use libc::STDOUT_FILENO;
 use rules::{Selected, Wheel, Words};
 
 // How many selections were made, how many of them differ from the search apart, and how many were
 // granted, refused by 13 and refused by 14.
-#[derive(Drop)]
+#[derive(Clone, Copy)]
 struct Tally {
     tried: u64,
     differ: u64,

@@ -1,13 +1,15 @@
 // Runs bare selection on vectors made outside this project and compares. The file that the argument
 // names has a line for each, `N S H P free W L -> no slots count words gap`; sets are decimals in
 // which bit s is slot s. A line of another form counts as one that differs.
+#![tactic(auto)]
+
 use apart::Found;
 use libc::STDOUT_FILENO;
 use rules::{Selected, Wheel, Words};
 
 // What was read of a line: the numbers of its fields so far, which field is being read, how many
 // bytes of it were, and whether all of them were in place. Field 7 is the arrow.
-#[derive(Drop)]
+#[derive(Clone, Copy)]
 struct Line {
     fields: [u64; 13],
     field: usize,
@@ -17,7 +19,7 @@ struct Line {
 
 // How many vectors there were, how many differ, and how many are large: at N 64 with 60 or more free
 // slots and 20 to 40 granted.
-#[derive(Drop)]
+#[derive(Clone, Copy)]
 struct Tally {
     vectors: u64,
     differ: u64,
@@ -25,7 +27,7 @@ struct Tally {
 }
 
 // The lines that were counted, and the line that is being read.
-#[derive(Drop)]
+#[derive(Clone, Copy)]
 struct State {
     tally: Tally,
     line: Line,

@@ -1,5 +1,7 @@
 // Texts, numbers and slots at a place of a buffer. Every function writes exactly its text: what stands
 // before the place and behind the text stays. It answers the place after the text.
+#![tactic(auto)]
+
 ghost use Rattle.std.specs.Prelude.{◌++◌, ◌+◌, ◌≤◌, length};
 ghost use Rattle.rules.specs.Sets.{has, places};
 ghost use Rattle.grammar.specs.Text.{decimal, field, fields};

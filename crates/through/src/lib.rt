@@ -1,6 +1,8 @@
 // The tests' one way to the library: every call goes through the functions of `face`, the code that
 // firmware links, with table and list lent as bytes. What is asked and what is answered has the
 // model's form.
+#![tactic(auto)]
+
 use model::{Asked, Call, Reply};
 
 // What an answer's array holds before a call, so that a no which writes there is seen.

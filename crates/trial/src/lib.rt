@@ -1,6 +1,8 @@
 // What the tests share: a call of the library beside the same call of the model, each on bytes of its
 // own, compared in the answer and in every byte of the two rooms, lent or not; damage to a byte; and
 // a table and a list to begin with, laid out by the model's code.
+#![tactic(auto)]
+
 ghost use Rattle.std.specs.Prelude.{◌≡◌, length};
 
 use libc::STDOUT_FILENO;
@@ -8,7 +10,7 @@ use model::{Asked, Call, Reply};
 
 // A byte of the table or of the list with another value: `at` counts through the table's room and
 // then the list's; past both, nothing is changed.
-#[derive(Drop)]
+#[derive(Clone, Copy)]
 pub struct Hit {
     pub at: u64,
     pub value: u64,
@@ -16,7 +18,7 @@ pub struct Hit {
 
 // What a call answered, whether the model answered the same and every byte is the model's, and
 // whether every byte is as it was.
-#[derive(Drop)]
+#[derive(Clone, Copy)]
 pub struct Outcome {
     pub reply: Reply,
     pub same: bool,
@@ -25,7 +27,7 @@ pub struct Outcome {
 
 // How many calls were made, how many of them were refused by 4, and how many did not do what they
 // must.
-#[derive(Drop)]
+#[derive(Clone, Copy)]
 pub struct Tally {
     pub calls: u64,
     pub fours: u64,

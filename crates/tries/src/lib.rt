@@ -1,5 +1,7 @@
 // One start more: it is passed over if by the bound it cannot win, and wins only if it is strictly
 // better than the starts before it.
+#![tactic(auto)]
+
 ghost use Rattle.std.specs.Prelude.{◌≡◌, true, false, ◌⊎◌, ◌+◌, ◌<◌, ◌≤◌};
 ghost use Rattle.line.specs.Tables.{Sound};
 ghost use Rattle.optimum.specs.Search.{Sofar, Short};

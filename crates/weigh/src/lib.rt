@@ -1,4 +1,6 @@
 // What the line at one start is worth: its tables, filled as far as they are needed.
+#![tactic(auto)]
+
 ghost use Rattle.std.specs.Prelude.{◌≡◌, ℕ, ◌+◌, ◌<◌, ◌≤◌, length, get_or};
 ghost use Rattle.line.specs.Tables.{Sound};
 ghost use Rattle.optimum.specs.Search.{Weighed};

@@ -1,6 +1,8 @@
 // The two tables of best words of the line at one start. Position p has its 64 entries from 64 * p on,
 // the one of k slots at 64 * p + k. An entry is a value: the words plus one, and 0 for what cannot be.
 // A head is for a packet that begins at the position; a tail is for a run that has ended there.
+#![tactic(auto)]
+
 ghost use Rattle.std.specs.Prelude.{◌≡◌, cond, ◌+◌, ◌<◌};
 ghost use Rattle.line.specs.Tables.{Sound};
 ghost use Rattle.line.specs.Rows.{Solved};
