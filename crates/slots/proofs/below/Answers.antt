@@ -4,19 +4,15 @@ use borrow.Author.Rules.{rules}
 use native.Mathlib.Omega.{arith}
 use Rattle.laws.specs.Logic.{tells_yes}
 use Rattle.laws.specs.Sets.{below_of, below_small, below_shift}
-use Rattle.slots.proofs.below.Statement.{statement}
-use Rattle.slots.proofs.below.Tie as tie
+use Rattle.slots.proofs.below.Goals as goal
 
-returns : tie.Need-returns
-returns c =
-    let all = below_of c.before.args.x 64 c.before.ranges.x.fits in
+pub returns-then-n-ge64 : goal.returns-then-n-ge64
+returns-then-n-ge64 c =
+    let all = below_of c.args.x 64 c.ranges.x.fits in
     tells_yes (record { below = λ i e. omega (arith, all.below i e) })
 
-returns-2 : tie.Need-returns-2
-returns-2 c =
-    let x = c.before.args.x in
-    let n = c.before.args.n in
+pub returns : goal.returns
+returns c =
+    let x = c.args.x in
+    let n = c.args.n in
     record { yes = λ e. below_of x n (below_small x n (eqb-true _ _ e)); no = λ e b. eqb-false _ _ e (below_shift x n b) }
-
-pub below-spec : {M : Type 1} → statement M
-below-spec = tie.close (tie.spec returns (λ c. search rules) returns-2)
