@@ -1,0 +1,15 @@
+-- The slots before position p + f are open.
+use mathlib.Core.Path.{◌≡◌, sym, ◌∙◌}
+use mathlib.Core.Bool.{true}
+use Prim.Native.Nat.{ℕ, ◌+◌, ◌-◌, ◌<◌}
+use native.Mathlib.Omega.{arith}
+use borrow.Author.Tests.{not-true, not-false}
+use borrow.Author.Count.{below_more}
+use Rattle.line.specs.Packets.{opens, opens_last}
+use Rattle.positions.proofs.free_run.Given as goal
+
+abbrev pub invariant-loop-f : goal.invariant-loop-f
+invariant-loop-f l = (l.p + l.f < l.n) × ((i : ℕ) → i < l.f → opens l.task l.start.0 (l.p + i) ≡ true)
+
+abbrev pub decreases-loop-f : goal.decreases-loop-f
+decreases-loop-f l = l.n - l.f
