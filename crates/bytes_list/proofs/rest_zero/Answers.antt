@@ -1,0 +1,28 @@
+-- The loop has seen that the reserved numbers below j are 0.
+use mathlib.Core.Path.{◌≡◌, refl, sym, ◌∙◌}
+use mathlib.Core.Bool.{true}
+use Prim.Native.Nat.{◌-◌, ◌≤◌}
+use native.Mathlib.Omega.{arith}
+use borrow.Author.Tests.{eq-eqb, ne_eqb}
+use Rattle.rules.specs.Sets.{all}
+use Rattle.laws.specs.Search.{all_more, all_no}
+use Rattle.bytes_list.specs.Layout.{numbers_at, is_zero}
+use borrow.Author.Rules.{rules}
+use Rattle.bytes_list.proofs.rest_zero.Goals as goal
+
+pub loop-j-init : goal.loop-j-init
+unfolding all
+loop-j-init c = (omega arith, refl)
+
+pub returns-then-number_at-ne0 : goal.returns-then-number_at-ne0
+unfolding is_zero
+returns-then-number_at-ne0 c = sym (all_no _ 8 c.loop-j.j (omega arith) (ne_eqb _ 0 (λ e. c.if-number_at-ne0.true (c.number_at.ensures ∙ e))))
+
+pub loop-j-preserved : goal.loop-j-preserved
+unfolding is_zero
+loop-j-preserved c =
+    let at = c.loop-j in
+    (omega arith, all_more _ at.j ∙ rw at.invariant.1 (eq-eqb _ 0 (sym c.number_at.ensures ∙ c.if-number_at-ne0.false)))
+
+pub returns : goal.returns
+returns c = let e : c.loop-j.j ≡ 8 = omega arith in sym (rw e at c.loop-j.invariant.1)
