@@ -1,5 +1,5 @@
 -- What can be decided: the ranges of a wheel, the length of a table, the number of a channel.
-use Rattle.std.specs.Prelude.{ℕ, ◌*◌, ◌≤◌, ◌<◌, List, length}
+use Rattle.std.specs.Prelude.{ℕ, ◌*◌, List, length}
 use Rattle.std.proofs.Math.Decide.{dec_le, dec_lt, ℕ_discrete}
 use Rattle.rules.specs.declared.Wheel.{Wheel}
 use Rattle.rules.specs.Wheels.{Legal}

@@ -9,7 +9,7 @@ use native.Mathlib.Omega.{arith}
 use Rattle.rules.specs.Sets.{stretch}
 use Rattle.rules.specs.Wheels.{chosen, gap, gap_at, largest_gap}
 use Rattle.laws.specs.Search.{most_le, most_above}
-use Rattle.laws.specs.Counting.{stretch_yes, stretch_le, stretch_fuel, stretch_is}
+use Rattle.laws.specs.Counting.{stretch_yes, stretch_le, stretch_fuel}
 use Rattle.laws.specs.Turns.{chosen_turn, gap_turn, distance, distance_below, distance_same}
 
 module _ (N x : ℕ) where

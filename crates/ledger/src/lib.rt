@@ -2,4 +2,3 @@
 // to the table, when table and list go on agreeing, and how many cells are held. There is no code
 // here: the laws stand in `specs/`.
 #![tactic(auto)]
-

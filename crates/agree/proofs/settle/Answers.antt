@@ -1,6 +1,5 @@
 -- A check that went well, and a count that is the number of claimed cells.
 use mathlib.Core.Path.{sym, ◌∙◌}
-use borrow.Author.Rules.{rules}
 use borrow.Author.Tests.{not-true, not-false, eqb-true, eqb-false}
 use Rattle.laws.specs.Logic.{tells_no, not_both}
 use Rattle.agree.proofs.settle.Goals as goal

@@ -1,14 +1,9 @@
 -- One record: given up before; not in order; in order, with its cells counted.
-use mathlib.Core.Path.{◌≡◌}
-use mathlib.Core.Bool.{true}
 use Prim.Native.Nat.{◌≤◌}
 use native.Mathlib.Omega.{arith}
-use borrow.Author.Rules.{rules}
 use borrow.Author.Tests.{not-true, not-false}
-use Rattle.rules.specs.Wheels.{Legal}
-use Rattle.rules.specs.Flows.{Own}
 use Rattle.ledger.specs.Totals.{cells_most}
-use Rattle.table.specs.Along.{Walkable, own_walkable}
+use Rattle.table.specs.Along.{own_walkable}
 use Rattle.agree.specs.OneRecord.{held_ordered, ordered_held, given_up, not_in_order, in_order}
 use Rattle.agree.proofs.step.Goals as goal
 
@@ -50,7 +45,7 @@ overflow_add-result c =
     let own = c.own.ensures.yes (not-false _ c.if-not-own.false-raw) in
     let walk = own_walkable _ _ _ _ own st.1 in
     let few : c.cells_of-cells.result ≤ 1024 =
-        omega (arith, c.cells_of-cells.ensures, cells_most c.args.chip.wheel c.args.r st.0.n64 walk.fits) in
+    omega (arith, c.cells_of-cells.ensures, cells_most c.args.chip.wheel c.args.r st.0.n64 walk.fits) in
     omega (arith, c.requires.f_bound.1)
 
 pub returns : goal.returns
@@ -60,6 +55,6 @@ returns c =
     let own = c.own.ensures.yes (not-false _ c.if-not-own.false-raw) in
     let walk = own_walkable _ _ _ _ own st.1 in
     let few : c.cells_of-cells.result ≤ 1024 =
-        omega (arith, c.cells_of-cells.ensures, cells_most c.args.chip.wheel c.args.r st.0.n64 walk.fits) in
+    omega (arith, c.cells_of-cells.ensures, cells_most c.args.chip.wheel c.args.r st.0.n64 walk.fits) in
     in_order _ _ _ _ _ ok _ c.cells_of-cells.ensures few
     (held_ordered _ _ _ _ own (c.holds.ensures.yes (not-false _ c.if-not-holds.false-raw)))

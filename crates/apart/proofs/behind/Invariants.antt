@@ -1,6 +1,5 @@
 -- The loop goes back once round the wheel, at most.
 use Prim.Native.Nat.{◌-◌, ◌≤◌}
-use borrow.Author.Rules.{rules}
 use Rattle.apart.proofs.behind.Given as goal
 
 abbrev pub invariant-loop-back : goal.invariant-loop-back

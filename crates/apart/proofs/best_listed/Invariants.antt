@@ -1,6 +1,5 @@
 -- The loop goes down through the sets.
 use Prim.Native.Nat.{◌≤◌}
-use borrow.Author.Rules.{rules}
 use Rattle.apart.proofs.best_listed.Given as goal
 
 abbrev pub invariant-loop-y : goal.invariant-loop-y

@@ -1,6 +1,5 @@
 -- The loop goes twice round the wheel; no stretch is longer than the way behind it.
 use Prim.Native.Nat.{◌-◌, ◌*◌, ◌≤◌}
-use borrow.Author.Rules.{rules}
 use Rattle.apart.proofs.largest_gap.Given as goal
 
 abbrev pub invariant-loop-i : goal.invariant-loop-i

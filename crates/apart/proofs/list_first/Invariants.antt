@@ -1,6 +1,5 @@
 -- The loop goes along the lists, which have no more entries than the wheel has slots.
 use Prim.Native.Nat.{◌-◌, ◌≤◌}
-use borrow.Author.Rules.{rules}
 use Rattle.apart.proofs.list_first.Given as goal
 
 abbrev pub invariant-loop-k : goal.invariant-loop-k

@@ -1,6 +1,5 @@
 -- The loop goes up through the table.
 use Prim.Native.Nat.{◌-◌, ◌≤◌}
-use borrow.Author.Rules.{rules}
 use Rattle.apart.proofs.list_ranks.Given as goal
 
 abbrev pub invariant-loop-x : goal.invariant-loop-x

@@ -1,6 +1,5 @@
 -- The loop goes once round the wheel.
 use Prim.Native.Nat.{◌-◌, ◌≤◌}
-use borrow.Author.Rules.{rules}
 use Rattle.apart.proofs.mirror.Given as goal
 
 abbrev pub invariant-loop-d : goal.invariant-loop-d

@@ -1,6 +1,5 @@
 -- The loop goes up through the sets.
 use Prim.Native.Nat.{◌-◌, ◌≤◌}
-use borrow.Author.Rules.{rules}
 use Rattle.apart.proofs.most_words.Given as goal
 
 abbrev pub invariant-loop-y : goal.invariant-loop-y

@@ -1,6 +1,5 @@
 -- The slots counted and the number that is left are together no more than the set as a number.
 use Prim.Native.Nat.{◌+◌, ◌≤◌}
-use borrow.Author.Rules.{rules}
 use Rattle.apart.proofs.size.Given as goal
 
 abbrev pub invariant-loop-rest : goal.invariant-loop-rest

@@ -1,6 +1,5 @@
 -- The loop goes down to slot 0.
 use Prim.Native.Nat.{◌≤◌}
-use borrow.Author.Rules.{rules}
 use Rattle.apart.proofs.smallest_start.Given as goal
 
 abbrev pub invariant-loop-i : goal.invariant-loop-i

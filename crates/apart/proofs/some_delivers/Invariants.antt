@@ -1,6 +1,5 @@
 -- The loop goes down from the set of all free slots to the empty one.
 use Prim.Native.Nat.{◌≤◌}
-use borrow.Author.Rules.{rules}
 use Rattle.apart.proofs.some_delivers.Given as goal
 
 abbrev pub invariant-loop-y : goal.invariant-loop-y

@@ -1,6 +1,5 @@
 -- No slot delivers more than 64 words.
 use Prim.Native.Nat.{◌-◌, ◌*◌, ◌≤◌}
-use borrow.Author.Rules.{rules}
 use Rattle.apart.proofs.words.Given as goal
 
 abbrev pub invariant-loop-i : goal.invariant-loop-i

@@ -1,7 +1,6 @@
 -- The state, then the reserved numbers.
 use borrow.Author.Tests.{not-true, not-false}
 use Rattle.bytes_list.specs.Reading.{formed_no, formed_rest}
-use borrow.Author.Rules.{rules}
 use Rattle.bytes_list.proofs.is_record.Goals as goal
 
 pub returns-then-not-known_state : goal.returns-then-not-known_state

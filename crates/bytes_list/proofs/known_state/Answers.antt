@@ -1,6 +1,5 @@
 -- By the state, and of a closed record by its demand.
 use Rattle.bytes_list.specs.Reading.{known_other, known_words, known_deadline}
-use borrow.Author.Rules.{rules}
 use Rattle.bytes_list.proofs.known_state.Goals as goal
 
 pub returns-then-state-ne0 : goal.returns-then-state-ne0

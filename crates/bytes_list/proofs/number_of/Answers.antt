@@ -2,7 +2,6 @@
 use native.Mathlib.Omega.{arith}
 use mathlib.Core.Path.{◌∙◌}
 use Rattle.bytes_list.specs.Writing.{number_state, number_len, number_path, number_slots, number_rest}
-use borrow.Author.Rules.{rules}
 use Rattle.bytes_list.proofs.number_of.Goals as goal
 
 pub returns-then-j-lt3 : goal.returns-then-j-lt3

@@ -2,7 +2,6 @@
 use mathlib.Core.Path.{◌∙◌}
 use Rattle.bytes_list.specs.Layout.{decoded}
 use Rattle.bytes_list.specs.Reading.{made}
-use borrow.Author.Rules.{rules}
 use Rattle.bytes_list.proofs.record_at.Goals as goal
 
 pub returns : goal.returns

@@ -1,7 +1,6 @@
 -- No record, a closed one, an open one.
 use borrow.Author.Tests.{not-true, not-false}
 use Rattle.bytes_list.specs.Reading.{state_none, state_closed, state_open}
-use borrow.Author.Rules.{rules}
 use Rattle.bytes_list.proofs.state_at.Goals as goal
 
 pub returns-then-not-is_record : goal.returns-then-not-is_record

@@ -1,6 +1,5 @@
 -- By the state, and by which number is asked for.
 use Rattle.bytes_list.specs.Writing.{closed_number, open_number, words_number, deadline_number}
-use borrow.Author.Rules.{rules}
 use Rattle.bytes_list.proofs.state_number.Goals as goal
 
 pub returns-then-j-eq0 : goal.returns-then-j-eq0

@@ -1,9 +1,7 @@
 -- The loop has written the numbers below j.
-use Prim.Native.Nat.{◌-◌, ◌≤◌}
 use mathlib.Core.Path.{refl}
 use native.Mathlib.Omega.{arith}
-use Rattle.bytes_list.specs.Writing.{Filled, filled_none, filled_more, filled_all}
-use borrow.Author.Rules.{rules}
+use Rattle.bytes_list.specs.Writing.{filled_none, filled_more, filled_all}
 use Rattle.bytes_list.proofs.write_record.Goals as goal
 
 pub loop-j-init : goal.loop-j-init

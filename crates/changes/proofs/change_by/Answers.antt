@@ -1,6 +1,5 @@
 -- By the verb.
 use mathlib.Core.Path.{sym, ap, ◌∙◌}
-use borrow.Author.Rules.{rules}
 use Rattle.rules.specs.Promises.{change}
 use Rattle.changes.proofs.change_by.Goals as goal
 

@@ -1,6 +1,5 @@
 -- By the answer.
 use mathlib.Core.Path.{sym, ap, ◌∙◌}
-use borrow.Author.Rules.{rules}
 use Rattle.changes.specs.Changes.{change_of}
 use Rattle.changes.proofs.change_of.Goals as goal
 

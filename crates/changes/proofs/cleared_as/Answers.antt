@@ -1,6 +1,5 @@
 -- Case by case.
 use mathlib.Core.Path.{sym, ap, ◌∙◌}
-use borrow.Author.Rules.{rules}
 use Rattle.rules.specs.declared.Answer.TheVariants as answer
 use Rattle.ledger.specs.Calls.{to_cleared}
 use Rattle.changes.proofs.cleared_as.Goals as goal

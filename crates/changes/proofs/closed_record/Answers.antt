@@ -1,6 +1,5 @@
 -- The closed record, field by field.
 use mathlib.Core.Path.{ap}
-use borrow.Author.Rules.{rules}
 use Rattle.rules.specs.declared.State.TheVariants.{Closed}
 use Rattle.rules.specs.declared.Record.{Record}
 use Rattle.rules.specs.Promises.{closed_record}

@@ -1,5 +1,4 @@
 -- Field by field.
-use borrow.Author.Rules.{rules}
 use Rattle.changes.proofs.closing.Goals as goal
 
 pub returns : goal.returns

@@ -1,6 +1,5 @@
 -- The closing of a closed flow.
 use mathlib.Core.Path.{◌∙◌, ap}
-use borrow.Author.Rules.{rules}
 use Rattle.rules.specs.Orders.{closing}
 use Rattle.rules.specs.declared.Verb.TheVariants.{ToClose}
 use Rattle.rules.specs.declared.Yes.TheVariants as yes

@@ -2,7 +2,6 @@
 use mathlib.Core.Path.{◌≡◌, refl, ◌∙◌}
 use mathlib.Core.List.{List, []}
 use Prim.Native.Nat.{ℕ}
-use borrow.Author.Rules.{rules}
 use Rattle.rules.specs.Sets.{list_of}
 use Rattle.rules.specs.Paths.{trimmed}
 use Rattle.changes.proofs.no_path.Goals as goal

@@ -1,6 +1,5 @@
 -- The record of an open flow, field by field.
 use mathlib.Core.Path.{ap}
-use borrow.Author.Rules.{rules}
 use Rattle.rules.specs.declared.State.TheVariants.{Open}
 use Rattle.rules.specs.declared.Record.{Record}
 use Rattle.rules.specs.Promises.{open_record}

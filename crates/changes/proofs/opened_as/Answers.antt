@@ -1,6 +1,5 @@
 -- Case by case.
 use mathlib.Core.Path.{sym, ap, ◌∙◌}
-use borrow.Author.Rules.{rules}
 use Rattle.rules.specs.declared.Answer.TheVariants as answer
 use Rattle.ledger.specs.Calls.{to_opened}
 use Rattle.changes.proofs.opened_as.Goals as goal

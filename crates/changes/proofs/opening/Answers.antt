@@ -1,6 +1,5 @@
 -- By what is told.
 use mathlib.Core.Path.{sym, ap, ◌∙◌}
-use borrow.Author.Rules.{rules}
 use Rattle.rules.specs.declared.Verb.TheVariants.{ToOpen}
 use Rattle.rules.specs.Promises.{change}
 use Rattle.changes.specs.Changes.{opening_made}

@@ -1,6 +1,5 @@
 -- The path of no channels, in a call.
 use mathlib.Core.Path.{ap}
-use borrow.Author.Rules.{rules}
 use Rattle.rules.specs.declared.Call.{Call}
 use Rattle.rules.specs.declared.Verb.TheVariants.{ToClose}
 use Rattle.changes.proofs.to_close.Goals as goal

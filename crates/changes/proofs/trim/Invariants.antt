@@ -1,13 +1,7 @@
 -- The loop has set the entries from len to i to zero and left those before len.
-use mathlib.Core.Path.{◌≡◌, refl, ◌∙◌}
-use mathlib.Core.Logic.{⊎_elim}
-use Prim.Native.Nat.{ℕ, suc, ◌+◌, ◌-◌, ◌≤◌, ◌<◌}
-use native.Mathlib.Omega.{arith}
-use native.Mathlib.Nat.{eq-or-lt_of_le}
-use lib.ListN.{length, get_or, length-set}
-use lib.Seq.{get_or-set_same, get_or-set_other}
-use borrow.Author.Rules.{rules}
-use Rattle.ledger.specs.Trimmed.{trimmed_is}
+use mathlib.Core.Path.{◌≡◌}
+use Prim.Native.Nat.{ℕ, ◌-◌, ◌≤◌, ◌<◌}
+use lib.ListN.{length, get_or}
 use Rattle.changes.proofs.trim.Given as goal
 
 abbrev pub invariant-loop-i : goal.invariant-loop-i

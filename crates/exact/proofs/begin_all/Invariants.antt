@@ -1,5 +1,5 @@
 -- The loop goes over the positions.
-use Rattle.std.proofs.Common.{◌≡◌, ◌-◌, ◌≤◌, length, rules}
+use Rattle.std.proofs.Common.{◌≡◌, ◌-◌, ◌≤◌, length}
 use Rattle.exact.proofs.begin_all.Given as goal
 
 abbrev pub invariant-loop-i : goal.invariant-loop-i

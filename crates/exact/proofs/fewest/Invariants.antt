@@ -1,5 +1,5 @@
 -- The loop goes over the numbers of slots.
-use Rattle.std.proofs.Common.{◌≡◌, ◌-◌, ◌≤◌, length, rules}
+use Rattle.std.proofs.Common.{◌≡◌, ◌-◌, ◌≤◌, length}
 use Rattle.exact.proofs.fewest.Given as goal
 
 abbrev pub invariant-loop-j : goal.invariant-loop-j

@@ -1,5 +1,5 @@
 -- The loop goes over the positions.
-use Rattle.std.proofs.Common.{◌≡◌, ◌-◌, ◌≤◌, length, rules}
+use Rattle.std.proofs.Common.{◌≡◌, ◌-◌, ◌≤◌, length}
 use Rattle.exact.proofs.follow_all.Given as goal
 
 abbrev pub invariant-loop-e : goal.invariant-loop-e

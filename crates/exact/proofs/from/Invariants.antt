@@ -1,5 +1,5 @@
 -- The loop goes over the lengths of the run.
-use Rattle.std.proofs.Common.{◌-◌, ◌≤◌, rules}
+use Rattle.std.proofs.Common.{◌-◌, ◌≤◌}
 use Rattle.exact.proofs.from.Given as goal
 
 abbrev pub invariant-loop-q : goal.invariant-loop-q

@@ -1,5 +1,5 @@
 -- The loop goes over the gaps.
-use Rattle.std.proofs.Common.{◌-◌, ◌≤◌, rules}
+use Rattle.std.proofs.Common.{◌-◌, ◌≤◌}
 use Rattle.exact.proofs.next_from.Given as goal
 
 abbrev pub invariant-loop-gap : goal.invariant-loop-gap

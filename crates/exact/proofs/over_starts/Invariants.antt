@@ -1,5 +1,5 @@
 -- The loop goes over the starts.
-use Rattle.std.proofs.Common.{◌≡◌, ◌-◌, ◌≤◌, length, rules}
+use Rattle.std.proofs.Common.{◌≡◌, ◌-◌, ◌≤◌, length}
 use Rattle.exact.proofs.over_starts.Given as goal
 
 abbrev pub invariant-loop-a : goal.invariant-loop-a

@@ -1,5 +1,5 @@
 -- The loop goes over the positions.
-use Rattle.std.proofs.Common.{◌-◌, ◌≤◌, rules}
+use Rattle.std.proofs.Common.{◌-◌, ◌≤◌}
 use Rattle.exact.proofs.slots_of.Given as goal
 
 abbrev pub invariant-loop-i : goal.invariant-loop-i

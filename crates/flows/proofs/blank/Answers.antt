@@ -1,5 +1,4 @@
 -- The three tests are the three parts of the fact.
-use borrow.Author.Rules.{rules}
 use Rattle.laws.specs.Logic.{tells_no}
 use Rattle.flows.proofs.blank.Goals as goal
 

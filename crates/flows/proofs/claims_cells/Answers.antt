@@ -1,6 +1,5 @@
 -- By the state.
 use mathlib.Core.Path.{sym, ap}
-use borrow.Author.Rules.{rules}
 use Rattle.rules.specs.Flows.{claiming}
 use Rattle.flows.proofs.claims_cells.Goals as goal
 

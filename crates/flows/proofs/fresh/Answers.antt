@@ -1,8 +1,5 @@
 -- The loop has seen that the entries before i are not the entry at k.
-use mathlib.Core.Path.{◌≡◌}
-use Prim.Native.Nat.{ℕ, ◌-◌, ◌≤◌, ◌<◌}
 use native.Mathlib.Omega.{arith}
-use lib.ListN.{get_or}
 use borrow.Author.Count.{below_more}
 use Rattle.laws.specs.Logic.{tells_yes, tells_no}
 use Rattle.flows.proofs.fresh.Goals as goal

@@ -2,7 +2,6 @@
 use mathlib.Core.Path.{◌≡◌, ap, sym, subst}
 use Prim.Native.Nat.{◌-◌}
 use native.Mathlib.Omega.{arith}
-use borrow.Author.Rules.{rules}
 use borrow.Author.Tests.{not-true, not-false}
 use Rattle.rules.specs.Best.{Meets}
 use Rattle.laws.specs.Logic.{tells_no}

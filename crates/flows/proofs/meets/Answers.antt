@@ -1,8 +1,6 @@
 -- The two tests are the two parts of rule 5: the words, and the largest gap for every gap.
 use native.Mathlib.Omega.{arith}
-use borrow.Author.Rules.{rules}
 use borrow.Author.Tests.{leb-true, leb-false}
-use Rattle.rules.specs.Wheels.{words}
 use Rattle.laws.specs.Logic.{tells_no}
 use Rattle.laws.specs.Gaps.{largest_near, near_largest}
 use Rattle.flows.proofs.meets.Goals as goal

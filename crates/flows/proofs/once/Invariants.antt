@@ -1,9 +1,5 @@
 -- The loop has seen that no entry before k stands twice.
 use Prim.Native.Nat.{ℕ, ◌-◌, ◌≤◌, ◌<◌}
-use native.Mathlib.Omega.{arith}
-use borrow.Author.Count.{below_more}
-use borrow.Author.Tests.{not-true, not-false}
-use Rattle.laws.specs.Logic.{tells_yes, tells_no}
 use Rattle.flows.specs.Tests.{Fresh}
 use Rattle.flows.proofs.once.Given as goal
 

@@ -1,5 +1,4 @@
 -- The state says which rules are asked.
-use borrow.Author.Rules.{rules}
 use Rattle.flows.specs.Tests.{own_closed, own_open}
 use Rattle.flows.proofs.own.Goals as goal
 

@@ -1,10 +1,9 @@
 -- The loop has seen that the entries from len to i are zero.
 use mathlib.Core.Path.{◌≡◌}
 use mathlib.Core.Logic.{⊎_elim}
-use Prim.Native.Nat.{ℕ, suc, ◌+◌, ◌-◌, ◌≤◌, ◌<◌}
+use Prim.Native.Nat.{suc, ◌+◌, ◌<◌}
 use native.Mathlib.Omega.{arith}
 use native.Mathlib.Nat.{eq-or-lt_of_le}
-use lib.ListN.{get_or}
 use Rattle.laws.specs.Logic.{tells_yes, tells_no}
 use Rattle.flows.proofs.rest.Goals as goal
 

@@ -1,5 +1,5 @@
 -- The loop goes over the slots.
-use Rattle.std.proofs.Common.{◌-◌, ◌≤◌, rules}
+use Rattle.std.proofs.Common.{◌-◌, ◌≤◌}
 use Rattle.model.proofs.free.Given as goal
 
 abbrev pub invariant-loop-s : goal.invariant-loop-s

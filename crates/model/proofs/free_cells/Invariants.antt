@@ -1,5 +1,5 @@
 -- The loop goes over the cells.
-use Rattle.std.proofs.Common.{◌-◌, ◌≤◌, rules}
+use Rattle.std.proofs.Common.{◌-◌, ◌≤◌}
 use Rattle.model.proofs.free_cells.Given as goal
 
 abbrev pub invariant-loop-i : goal.invariant-loop-i

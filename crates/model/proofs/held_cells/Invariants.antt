@@ -1,5 +1,5 @@
 -- The loop goes over the flows.
-use Rattle.std.proofs.Common.{◌-◌, ◌≤◌, rules}
+use Rattle.std.proofs.Common.{◌-◌, ◌≤◌}
 use Rattle.model.proofs.held_cells.Given as goal
 
 abbrev pub invariant-loop-f : goal.invariant-loop-f

@@ -1,5 +1,5 @@
 -- The loop goes over the positions.
-use Rattle.std.proofs.Common.{◌≡◌, ◌-◌, ◌≤◌, length, rules}
+use Rattle.std.proofs.Common.{◌≡◌, ◌-◌, ◌≤◌, length}
 use Rattle.model.proofs.mark.Given as goal
 
 abbrev pub invariant-loop-i : goal.invariant-loop-i

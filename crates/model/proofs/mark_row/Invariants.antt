@@ -1,5 +1,5 @@
 -- The loop goes over the slots.
-use Rattle.std.proofs.Common.{◌≡◌, ◌-◌, ◌≤◌, length, rules}
+use Rattle.std.proofs.Common.{◌≡◌, ◌-◌, ◌≤◌, length}
 use Rattle.model.proofs.mark_row.Given as goal
 
 abbrev pub invariant-loop-s : goal.invariant-loop-s

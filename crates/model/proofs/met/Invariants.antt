@@ -1,5 +1,5 @@
 -- The loop goes over the entries before.
-use Rattle.std.proofs.Common.{◌-◌, ◌≤◌, rules}
+use Rattle.std.proofs.Common.{◌-◌, ◌≤◌}
 use Rattle.model.proofs.met.Given as goal
 
 abbrev pub invariant-loop-k : goal.invariant-loop-k

@@ -1,5 +1,5 @@
 -- The loop goes over the flows.
-use Rattle.std.proofs.Common.{◌≡◌, ◌-◌, ◌≤◌, length, rules}
+use Rattle.std.proofs.Common.{◌≡◌, ◌-◌, ◌≤◌, length}
 use Rattle.model.proofs.paint.Given as goal
 
 abbrev pub invariant-loop-f : goal.invariant-loop-f

@@ -1,5 +1,5 @@
 -- The loop goes over the numbers.
-use Rattle.std.proofs.Common.{◌≡◌, ◌-◌, ◌≤◌, length, rules}
+use Rattle.std.proofs.Common.{◌≡◌, ◌-◌, ◌≤◌, length}
 use Rattle.model.proofs.put_closed.Given as goal
 
 abbrev pub invariant-loop-j : goal.invariant-loop-j

@@ -1,5 +1,5 @@
 -- The loop goes over the bytes.
-use Rattle.std.proofs.Common.{◌-◌, ◌≤◌, rules}
+use Rattle.std.proofs.Common.{◌-◌, ◌≤◌}
 use Rattle.model.proofs.same.Given as goal
 
 abbrev pub invariant-loop-i : goal.invariant-loop-i

@@ -1,5 +1,5 @@
 -- The loop goes over the numbers.
-use Rattle.std.proofs.Common.{◌-◌, ◌≤◌, rules}
+use Rattle.std.proofs.Common.{◌-◌, ◌≤◌}
 use Rattle.model.proofs.zeros.Given as goal
 
 abbrev pub invariant-loop-j : goal.invariant-loop-j

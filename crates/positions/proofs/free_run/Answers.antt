@@ -1,11 +1,10 @@
 -- The slots before position p + f are open.
-use mathlib.Core.Path.{◌≡◌, sym, ◌∙◌}
-use mathlib.Core.Bool.{true}
-use Prim.Native.Nat.{ℕ, ◌+◌, ◌-◌, ◌<◌}
+use mathlib.Core.Path.{sym, ◌∙◌}
+use Prim.Native.Nat.{◌+◌}
 use native.Mathlib.Omega.{arith}
 use borrow.Author.Tests.{not-true, not-false}
 use borrow.Author.Count.{below_more}
-use Rattle.line.specs.Packets.{opens, opens_last}
+use Rattle.line.specs.Packets.{opens_last}
 use Rattle.positions.proofs.free_run.Goals as goal
 
 pub loop-f-init : goal.loop-f-init

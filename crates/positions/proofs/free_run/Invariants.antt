@@ -1,11 +1,8 @@
 -- The slots before position p + f are open.
-use mathlib.Core.Path.{◌≡◌, sym, ◌∙◌}
+use mathlib.Core.Path.{◌≡◌}
 use mathlib.Core.Bool.{true}
 use Prim.Native.Nat.{ℕ, ◌+◌, ◌-◌, ◌<◌}
-use native.Mathlib.Omega.{arith}
-use borrow.Author.Tests.{not-true, not-false}
-use borrow.Author.Count.{below_more}
-use Rattle.line.specs.Packets.{opens, opens_last}
+use Rattle.line.specs.Packets.{opens}
 use Rattle.positions.proofs.free_run.Given as goal
 
 abbrev pub invariant-loop-f : goal.invariant-loop-f

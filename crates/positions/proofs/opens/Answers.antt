@@ -3,7 +3,6 @@ use mathlib.Core.Path.{sym, ◌∙◌}
 use Prim.Native.Nat.{◌+◌}
 use native.Mathlib.Omega.{arith}
 use native.Mathlib.Nat.{mod-lt}
-use borrow.Author.Rules.{rules}
 use Rattle.rules.specs.Wheels.{chosen}
 use Rattle.line.specs.Packets.{opens_before, opens_last}
 use Rattle.positions.proofs.opens.Goals as goal

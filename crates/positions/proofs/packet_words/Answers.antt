@@ -2,7 +2,6 @@
 use Prim.Native.Nat.{◌*◌, ◌≤◌}
 use native.Mathlib.Omega.{arith}
 use native.Mathlib.Nat.{mul-le-mul_right}
-use borrow.Author.Rules.{rules}
 use Rattle.positions.proofs.packet_words.Goals as goal
 
 pub overflow_mul-result : goal.overflow_mul-result

@@ -1,5 +1,4 @@
 -- What cannot be stays so; anything else is raised.
-use borrow.Author.Rules.{rules}
 use Rattle.line.specs.Values.{raised, raised_some}
 use Rattle.positions.proofs.raised.Goals as goal
 

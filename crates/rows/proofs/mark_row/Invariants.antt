@@ -1,12 +1,9 @@
 -- The loop has written v into the cells that the slots below s reach, and into no other.
-use mathlib.Core.Path.{◌≡◌, refl, sym, ap, ◌∙◌}
-use mathlib.Core.Logic.{⊎_elim}
+use mathlib.Core.Path.{◌≡◌}
 use mathlib.Core.Bool.{cond}
 use Prim.Native.Nat.{ℕ, ◌-◌, ◌≤◌, ◌<◌}
-use native.Mathlib.Omega.{arith}
-use lib.ListN.{length, get_or, length-set}
-use Rattle.rules.specs.Sets.{any}
-use Rattle.rows.specs.Rows.{hits, mark_skip, mark_slot}
+use lib.ListN.{length, get_or}
+use Rattle.rows.specs.Rows.{hits}
 use Rattle.rows.proofs.mark_row.Given as goal
 
 abbrev pub invariant-loop-s : goal.invariant-loop-s

@@ -1,13 +1,9 @@
 -- The loop has seen that the cells of the slots below s hold v.
-use mathlib.Core.Path.{◌≡◌, sym, ap, ◌∙◌}
-use mathlib.Core.Logic.{⊎_elim}
+use mathlib.Core.Path.{◌≡◌}
 use mathlib.Core.Bool.{true}
 use Prim.Native.Nat.{ℕ, ◌-◌, ◌≤◌, ◌<◌}
-use native.Mathlib.Omega.{arith}
 use lib.ListN.{get_or}
-use borrow.Author.Count.{below_more}
 use Rattle.rules.specs.Sets.{has}
-use Rattle.laws.specs.Logic.{tells_yes, tells_no, not_both}
 use Rattle.rows.specs.Rows.{later}
 use Rattle.rows.proofs.row_holds.Given as goal
 

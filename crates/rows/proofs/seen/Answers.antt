@@ -2,7 +2,6 @@
 use mathlib.Core.Path.{sym, ◌∙◌}
 use native.Mathlib.Omega.{arith}
 use native.Mathlib.Nat.{mod-eq_of_lt, mod-eq-sub-mod}
-use borrow.Author.Rules.{rules}
 use Rattle.rows.specs.Rows.{later}
 use Rattle.rows.proofs.seen.Goals as goal
 

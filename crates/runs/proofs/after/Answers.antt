@@ -3,7 +3,6 @@ use mathlib.Core.Path.{◌≡◌, sym, ap, ◌∙◌}
 use Prim.Native.Nat.{◌+◌, ◌%◌}
 use native.Mathlib.Omega.{arith}
 use native.Mathlib.Nat.{mod-eq_of_lt, mod_self}
-use borrow.Author.Rules.{rules}
 use Rattle.runs.proofs.after.Goals as goal
 
 pub returns-then-i-n : goal.returns-then-i-n

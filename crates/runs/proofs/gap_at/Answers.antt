@@ -4,7 +4,6 @@ use mathlib.Core.Bool.{false}
 use Prim.Native.Nat.{◌-◌, suc}
 use native.Mathlib.Omega.{arith}
 use native.Mathlib.Numerals.{one-add}
-use borrow.Author.Rules.{rules}
 use Rattle.rules.specs.Sets.{stretch}
 use Rattle.rules.specs.Wheels.{gap, gap_at}
 use Rattle.laws.specs.Counting.{stretch_le}

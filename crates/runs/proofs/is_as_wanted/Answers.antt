@@ -1,7 +1,6 @@
 -- By cases on what is wanted.
 use mathlib.Core.Path.{ap}
 use mathlib.Core.Bool.{not}
-use borrow.Author.Rules.{rules}
 use Rattle.runs.proofs.is_as_wanted.Goals as goal
 
 pub returns-then-wanted : goal.returns-then-wanted

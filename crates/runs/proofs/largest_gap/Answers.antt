@@ -1,6 +1,6 @@
 -- The loop has the largest gap after the slots below slot i.
 use mathlib.Core.Path.{◌≡◌, refl, sym, ap, ap₂, ◌∙◌}
-use Prim.Native.Nat.{◌-◌, ◌≤◌, max}
+use Prim.Native.Nat.{max}
 use native.Mathlib.Omega.{arith}
 use borrow.Author.Tests.{not-true, not-false}
 use Rattle.rules.specs.Sets.{most}

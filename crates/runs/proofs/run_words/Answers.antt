@@ -1,7 +1,6 @@
 -- Rule 2 as it stands; the headers never outweigh the words.
 use mathlib.Core.Path.{refl}
 use native.Mathlib.Omega.{arith}
-use borrow.Author.Rules.{rules}
 use Rattle.rules.specs.Wheels.{ceil, run_words}
 use Rattle.laws.specs.Bounds.{headers_most, run_most}
 use Rattle.runs.proofs.run_words.Goals as goal

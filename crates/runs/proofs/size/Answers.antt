@@ -1,7 +1,7 @@
 -- The loop has counted the chosen slots below slot i.
 use mathlib.Core.Path.{◌≡◌, refl, sym, ap, ◌∙◌}
 use mathlib.Core.Bool.{Bool, cond}
-use Prim.Native.Nat.{ℕ, ◌+◌, ◌-◌, ◌≤◌, ◌<◌}
+use Prim.Native.Nat.{ℕ, ◌+◌, ◌<◌}
 use native.Mathlib.Omega.{arith}
 use borrow.Author.Tests.{not-true, not-false}
 use Rattle.rules.specs.Sets.{sum}
@@ -36,7 +36,7 @@ loop-i-preserved c =
     let below = c.loop-i-test.true in
     let test = chosen_below a.w.n a.x at.i below ∙ sym c.has_slot.ensures in
     elim c.if-has_slot.branch [
-        then-has_slot w ↦ (omega arith, omega arith, omega (arith, at.invariant.2, one_more a.w.n a.x at.i _ below (test ∙ w.if-has_slot.true)))
+      | then-has_slot w ↦ (omega arith, omega arith, omega (arith, at.invariant.2, one_more a.w.n a.x at.i _ below (test ∙ w.if-has_slot.true)))
       | else-has_slot w ↦ (omega arith, omega arith, omega (arith, at.invariant.2, one_more a.w.n a.x at.i _ below (test ∙ w.if-has_slot.false)))
     ]
 

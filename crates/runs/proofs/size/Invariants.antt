@@ -1,15 +1,9 @@
 -- The loop has counted the chosen slots below slot i.
-use mathlib.Core.Path.{◌≡◌, refl, sym, ap, ◌∙◌}
-use mathlib.Core.Bool.{Bool, cond}
-use mathlib.Core.Logic.{⊎_elim}
-use Prim.Native.Nat.{ℕ, ◌+◌, ◌-◌, ◌≤◌, ◌<◌}
-use native.Mathlib.Omega.{arith}
-use borrow.Author.Tests.{not-true, not-false}
+use mathlib.Core.Path.{◌≡◌}
+use mathlib.Core.Bool.{cond}
+use Prim.Native.Nat.{ℕ, ◌-◌, ◌≤◌}
 use Rattle.rules.specs.Sets.{sum}
-use Rattle.rules.specs.Wheels.{chosen, size}
-use Rattle.laws.specs.Counting.{sum_more}
-use Rattle.laws.specs.Turns.{chosen_below}
-use Rattle.laws.specs.Measured.{measured_good, measured_bad}
+use Rattle.rules.specs.Wheels.{chosen}
 use Rattle.runs.proofs.size.Given as goal
 
 abbrev pub counted : ℕ → ℕ → ℕ → ℕ

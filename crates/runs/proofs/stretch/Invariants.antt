@@ -1,13 +1,7 @@
 -- The loop walks along the stretch: `count` slots are behind, and slot i is the next one, counted round the wheel.
-use mathlib.Core.Path.{◌≡◌, sym, ap, ◌∙◌}
-use mathlib.Core.Bool.{Bool, not, cond}
-use Prim.Native.Nat.{ℕ, ◌+◌, ◌-◌, ◌%◌, ◌<◌}
-use native.Mathlib.Omega.{arith}
-use native.Mathlib.Nat.{mod-eq_of_lt, add-zero, sub-zero, mod-add-mod}
-use borrow.Author.Tests.{not-true, not-false}
-use Rattle.rules.specs.Sets.{has, stretch}
-use Rattle.rules.specs.Wheels.{chosen}
-use Rattle.laws.specs.Counting.{walk_on, walk_stop, walk_end}
+use mathlib.Core.Path.{◌≡◌}
+use Prim.Native.Nat.{◌+◌, ◌-◌, ◌%◌, ◌<◌}
+use Rattle.rules.specs.Sets.{stretch}
 use Rattle.runs.specs.Steps.{as_wanted}
 use Rattle.runs.proofs.stretch.Given as goal
 

@@ -2,7 +2,6 @@
 use mathlib.Core.Path.{ap, ◌∙◌}
 use mathlib.Core.Bool.{true}
 use native.Mathlib.Omega.{arith}
-use borrow.Author.Rules.{rules}
 use Rattle.rules.specs.Wheels.{run, run_words, words_at}
 use Rattle.laws.specs.Counting.{stretch_le}
 use Rattle.runs.specs.Steps.{as_wanted}

@@ -1,6 +1,5 @@
 -- The loop has added up the runs that start below slot i.
 use mathlib.Core.Path.{◌≡◌, refl, ap, ◌∙◌}
-use Prim.Native.Nat.{◌-◌, ◌*◌, ◌≤◌}
 use native.Mathlib.Omega.{arith}
 use Rattle.rules.specs.Sets.{sum}
 use Rattle.rules.specs.Wheels.{words_at}

@@ -1,11 +1,8 @@
 -- The loop has added up the runs that start below slot i.
-use mathlib.Core.Path.{◌≡◌, refl, ap, ◌∙◌}
+use mathlib.Core.Path.{◌≡◌}
 use Prim.Native.Nat.{◌-◌, ◌*◌, ◌≤◌}
-use native.Mathlib.Omega.{arith}
 use Rattle.rules.specs.Sets.{sum}
 use Rattle.rules.specs.Wheels.{words_at}
-use Rattle.laws.specs.Counting.{sum_more}
-use Rattle.runs.specs.Steps.{words_at_most}
 use Rattle.runs.proofs.words_of_runs.Given as goal
 
 abbrev pub invariant-loop-i : goal.invariant-loop-i

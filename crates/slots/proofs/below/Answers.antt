@@ -1,6 +1,5 @@
 -- No slot is at n or beyond if nothing is left of x after n bits.
 use borrow.Author.Tests.{eqb-true, eqb-false}
-use borrow.Author.Rules.{rules}
 use native.Mathlib.Omega.{arith}
 use Rattle.laws.specs.Logic.{tells_yes}
 use Rattle.laws.specs.Sets.{below_of, below_small, below_shift}

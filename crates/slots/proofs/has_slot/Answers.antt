@@ -1,6 +1,5 @@
 -- Slot i of x is bit i: the contract is what the code computes.
 use mathlib.Core.Path.{refl}
-use borrow.Author.Rules.{rules}
 use Rattle.rules.specs.Sets.{has}
 use Rattle.slots.proofs.has_slot.Goals as goal
 

@@ -3,7 +3,6 @@ use mathlib.Core.Path.{◌≡◌, sym, ap, ◌∙◌}
 use Prim.Native.Nat.{◌+◌, ◌-◌, ◌%◌}
 use native.Mathlib.Omega.{arith}
 use native.Mathlib.Nat.{mod-eq_of_lt, add-mod_right}
-use borrow.Author.Rules.{rules}
 use Rattle.starts.proofs.before.Goals as goal
 
 pub returns-then-i-gt0 : goal.returns-then-i-gt0

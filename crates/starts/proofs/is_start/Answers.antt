@@ -1,9 +1,7 @@
 -- A start is chosen, and its predecessor round the wheel is not.
 use mathlib.Core.Path.{ap, ◌∙◌}
 use mathlib.Core.Bool.{not}
-use native.Mathlib.Omega.{arith}
 use native.Mathlib.Nat.{mod-eq_of_lt}
-use borrow.Author.Rules.{rules}
 use Rattle.rules.specs.Sets.{has}
 use Rattle.rules.specs.Wheels.{chosen, start}
 use Rattle.starts.proofs.is_start.Goals as goal

@@ -1,8 +1,6 @@
 -- The loop has counted the cells before cell i that are not 0.
 use mathlib.Core.Path.{◌≡◌, refl, ap, ◌∙◌}
 use mathlib.Core.Bool.{cond}
-use mathlib.Core.List.{List}
-use Prim.Native.Nat.{ℕ, ◌-◌, ◌≤◌}
 use native.Mathlib.Omega.{arith}
 use lib.ListN.{length, get_or}
 use borrow.Author.Tests.{eq-eqb, ne_eqb}
@@ -23,7 +21,7 @@ loop-i-preserved c =
     let t = c.args.table.now in
     let v = get_or t at.i 0 in
     elim c.if-table-i-ne0.branch [
-        then-table-i-ne0 w ↦
+      | then-table-i-ne0 w ↦
           let one : used v ≡ 1 = ap (λ b. cond b 0 1) (ne_eqb v 0 w.if-table-i-ne0.true) in
           (omega arith, omega arith, omega (arith, at.invariant.2, sum_more (λ j. used (get_or t j 0)) at.i))
       | else-table-i-ne0 w ↦

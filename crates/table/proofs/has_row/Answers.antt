@@ -1,6 +1,5 @@
 -- The three tests are the three parts of the fact.
 use native.Mathlib.Omega.{arith}
-use borrow.Author.Rules.{rules}
 use borrow.Author.Tests.{not-true, not-false, ltb-true, ltb-false}
 use Rattle.laws.specs.Logic.{tells_no}
 use Rattle.table.proofs.has_row.Goals as goal

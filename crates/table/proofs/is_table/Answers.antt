@@ -1,6 +1,5 @@
 -- The tests are the three parts of `Tabled`.
 use native.Mathlib.Omega.{arith}
-use borrow.Author.Rules.{rules}
 use borrow.Author.Tests.{eqb-true, eqb-false}
 use Rattle.laws.specs.Logic.{tells_no}
 use Rattle.table.proofs.is_table.Goals as goal
