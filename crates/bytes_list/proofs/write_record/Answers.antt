@@ -15,7 +15,7 @@ put-requires c = omega (arith, c.loop-j.invariant.1.long)
 pub loop-j-preserved : goal.loop-j-preserved
 loop-j-preserved c =
     let at = c.loop-j in
-    let filled = filled_more _ _ _ at.j _ at.invariant.1 (omega arith) (omega arith) _ _ refl c.number_of_lem.ensures in
+    let filled = filled_more _ _ _ at.j _ at.invariant.1 (omega arith) (omega arith) _ _ refl c.number_of-v.ensures in
     (omega arith, rw c.put.ensures filled)
 
 pub shape_of-bytes : goal.shape_of-bytes

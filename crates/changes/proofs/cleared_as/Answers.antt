@@ -10,7 +10,7 @@ returns-in-Granted c = sym (ap to_cleared c.in-Done.is ∙ ap (λ y. to_cleared 
 
 pub returns-in-Cells : goal.returns-in-Cells
 returns-in-Cells c =
-    sym (ap to_cleared c.in-Done.is ∙ ap (λ c. to_cleared (answer.Done c)) c.in-Cells.is)
+    sym (ap to_cleared c.in-Done.is ∙ ap (λ y. to_cleared (answer.Done y)) c.in-Cells.is)
 
 pub returns-in-Refused : goal.returns-in-Refused
 returns-in-Refused c = sym (ap to_cleared c.in-Refused.is)

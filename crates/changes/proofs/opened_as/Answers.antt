@@ -7,7 +7,7 @@ use Rattle.changes.proofs.opened_as.Goals as goal
 
 pub returns-in-Granted : goal.returns-in-Granted
 returns-in-Granted c =
-    sym (ap to_opened c.in-Done.is ∙ ap (λ c. to_opened (answer.Done c)) c.in-Granted.is)
+    sym (ap to_opened c.in-Done.is ∙ ap (λ y. to_opened (answer.Done y)) c.in-Granted.is)
 
 pub returns-in-Cells : goal.returns-in-Cells
 returns-in-Cells c = sym (ap to_opened c.in-Done.is ∙ ap (λ y. to_opened (answer.Done y)) c.in-Cells.is)

@@ -7,7 +7,7 @@ use Rattle.changes.specs.Changes.{opening_made}
 use Rattle.changes.proofs.opening.Goals as goal
 
 pub returns-in-Granted : goal.returns-in-Granted
-returns-in-Granted c = λ r. opening_made _ _ _ r _ _ c.open_record-new.ensures c.in-Granted.is
+returns-in-Granted c = λ r. opening_made c.args.call c.args.demand c.in-Granted.g r _ _ c.open_record-new.ensures c.in-Granted.is
 
 pub returns-in-Cells : goal.returns-in-Cells
 returns-in-Cells c = λ r.

@@ -1,7 +1,6 @@
 -- The loop has counted the chosen slots below slot i.
 use mathlib.Core.Path.{◌≡◌, refl, sym, ap, ◌∙◌}
 use mathlib.Core.Bool.{Bool, cond}
-use mathlib.Core.Logic.{⊎_elim}
 use Prim.Native.Nat.{ℕ, ◌+◌, ◌-◌, ◌≤◌, ◌<◌}
 use native.Mathlib.Omega.{arith}
 use borrow.Author.Tests.{not-true, not-false}
@@ -10,10 +9,9 @@ use Rattle.rules.specs.Wheels.{chosen, size}
 use Rattle.laws.specs.Counting.{sum_more}
 use Rattle.laws.specs.Turns.{chosen_below}
 use Rattle.laws.specs.Measured.{measured_good, measured_bad}
+use Rattle.runs.proofs.size.Invariants.{counted}
 use Rattle.runs.proofs.size.Goals as goal
-
-abbrev counted : ℕ → ℕ → ℕ → ℕ
-counted n x i = sum (λ j. cond (chosen n x j) 1 0) 0 i
+use Rattle.runs.proofs.size.Goals.{then-has_slot, else-has_slot}
 
 -- one slot more, of which it is known whether it is chosen
 one_more : (n x i : ℕ) (b : Bool) → i < n → chosen n x i ≡ b → counted n x (i + 1) ≡ counted n x i + cond b 1 0
@@ -37,10 +35,10 @@ loop-i-preserved c =
     let a = c.args in
     let below = c.loop-i-test.true in
     let test = chosen_below a.w.n a.x at.i below ∙ sym c.has_slot.ensures in
-    ⊎_elim
-    (λ u. (omega arith, omega (arith, u.1), omega (arith, u.1, at.invariant.2, one_more a.w.n a.x at.i _ below (test ∙ u.0.taken))))
-    (λ u. (omega arith, omega (arith, u.1), omega (arith, u.1, at.invariant.2, one_more a.w.n a.x at.i _ below (test ∙ u.0.left))))
-    c.if-has_slot.branch
+    elim c.if-has_slot.branch [
+        then-has_slot w ↦ (omega arith, omega arith, omega (arith, at.invariant.2, one_more a.w.n a.x at.i _ below (test ∙ w.if-has_slot.true)))
+      | else-has_slot w ↦ (omega arith, omega arith, omega (arith, at.invariant.2, one_more a.w.n a.x at.i _ below (test ∙ w.if-has_slot.false)))
+    ]
 
 pub returns : goal.returns
 unfolding size

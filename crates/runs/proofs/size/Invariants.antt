@@ -12,6 +12,9 @@ use Rattle.laws.specs.Turns.{chosen_below}
 use Rattle.laws.specs.Measured.{measured_good, measured_bad}
 use Rattle.runs.proofs.size.Given as goal
 
+abbrev pub counted : ℕ → ℕ → ℕ → ℕ
+counted n x i = sum (λ j. cond (chosen n x j) 1 0) 0 i
+
 abbrev pub invariant-loop-i : goal.invariant-loop-i
 invariant-loop-i l = (l.i ≤ l.n) × (l.count ≤ l.i) × (l.count ≡ counted l.n l.x l.i)
 

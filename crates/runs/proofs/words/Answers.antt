@@ -15,26 +15,14 @@ use Rattle.runs.specs.Steps.{as_wanted}
 use Rattle.runs.proofs.words.Goals as goal
 
 module _ (w : Wheel) (x q r : ℕ) (counted : q ≡ stretch (as_wanted w.n x true) 0 w.n) where
-  words-full : q ≡ w.n → r ≡ run_words w w.n → r ≡ words w x
+  words_full : q ≡ w.n → r ≡ run_words w w.n → r ≡ words w x
   unfolding words full as_wanted
-  words-full e v = rw (stretch_all (chosen w.n x) w.n (sym counted ∙ e)) v
+  words_full e v = rw (stretch_all (chosen w.n x) w.n (sym counted ∙ e)) v
 
-  words-cut : ¬ (q ≡ w.n) → r ≡ sum (words_at w x) 0 w.n → r ≡ words w x
+  words_cut : ¬ (q ≡ w.n) → r ≡ sum (words_at w x) 0 w.n → r ≡ words w x
   unfolding words full as_wanted
-  words-cut n v =
+  words_cut n v =
       rw (not_true_false (full w.n x) (λ e. n (counted ∙ all_stretch (chosen w.n x) w.n e))) v
-
-value_full : (c : tie.After-run-words) → (let a = c.before.before.before.before.before.args in c.run-words.result ≡ words a.w a.x)
-value_full c =
-    let a = c.before.before.before.before.before.args in
-    let st = c.before.before.stretch in
-    words-full a.w a.x st.result c.run-words.result st.ensures c.before.if2.true c.run-words.ensures
-
-value_cut : (c : tie.After-words-of-runs) → (let a = c.before.before.before.before.before.args in c.words-of-runs.result ≡ words a.w a.x)
-value_cut c =
-    let a = c.before.before.before.before.before.args in
-    let st = c.before.before.stretch in
-    words-cut a.w a.x st.result c.words-of-runs.result st.ensures c.before.if2.false c.words-of-runs.ensures
 
 pub returns-then-not-legal : goal.returns-then-not-legal
 returns-then-not-legal c = measured_bad (c.legal.ensures.no (not-true _ c.if-not-legal.true-raw))
@@ -47,16 +35,16 @@ stretch-requires c =
 pub run_words-requires : goal.run_words-requires
 run_words-requires c =
     let legal = c.legal.ensures.yes (not-false _ c.if-not-legal.false-raw) in
-    (legal, legal.n64)
+    record { legal = legal; q_bound = legal.n64 }
 
 pub overflow_cast-result : goal.overflow_cast-result
 overflow_cast-result c =
     let legal = c.legal.ensures.yes (not-false _ c.if-not-legal.false-raw) in
-    omega (arith, value_full c, words_small c.args.w legal c.args.x)
+    omega (arith, (words_full c.args.w c.args.x c.stretch.result c.run_words.result c.stretch.ensures c.if-stretch-n.true c.run_words.ensures), words_small c.args.w legal c.args.x)
 
 pub returns-then-stretch-n : goal.returns-then-stretch-n
 returns-then-stretch-n c =
-    measured_good (c.legal.ensures.yes (not-false _ c.if-not-legal.false-raw)) (value_full c)
+    measured_good (c.legal.ensures.yes (not-false _ c.if-not-legal.false-raw)) (words_full c.args.w c.args.x c.stretch.result c.run_words.result c.stretch.ensures c.if-stretch-n.true c.run_words.ensures)
 
 pub words_of_runs-requires : goal.words_of_runs-requires
 words_of_runs-requires c = c.legal.ensures.yes (not-false _ c.if-not-legal.false-raw)
@@ -64,8 +52,8 @@ words_of_runs-requires c = c.legal.ensures.yes (not-false _ c.if-not-legal.false
 pub overflow_cast-result-2 : goal.overflow_cast-result-2
 overflow_cast-result-2 c =
     let legal = c.legal.ensures.yes (not-false _ c.if-not-legal.false-raw) in
-    omega (arith, value_cut c, words_small c.args.w legal c.args.x)
+    omega (arith, (words_cut c.args.w c.args.x c.stretch.result c.words_of_runs.result c.stretch.ensures c.if-stretch-n.false c.words_of_runs.ensures), words_small c.args.w legal c.args.x)
 
 pub returns : goal.returns
 returns c =
-    measured_good (c.legal.ensures.yes (not-false _ c.if-not-legal.false-raw)) (value_cut c)
+    measured_good (c.legal.ensures.yes (not-false _ c.if-not-legal.false-raw)) (words_cut c.args.w c.args.x c.stretch.result c.words_of_runs.result c.stretch.ensures c.if-stretch-n.false c.words_of_runs.ensures)

@@ -11,7 +11,10 @@ use Rattle.runs.proofs.words_at.Goals as goal
 pub run_words-requires : goal.run_words-requires
 run_words-requires c =
     let a = c.args in
-    (c.requires.legal, omega (arith, c.stretch.ensures, stretch_le (as_wanted a.w.n a.x true) a.w.n a.i))
+    record {
+      legal = c.requires.legal;
+      q_bound = omega (arith, c.stretch.ensures, stretch_le (as_wanted a.w.n a.x true) a.w.n a.i);
+    }
 
 pub returns-then-is_start : goal.returns-then-is_start
 unfolding words_at run as_wanted
