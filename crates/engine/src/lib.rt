@@ -3,7 +3,7 @@
 // is passed over, and a later start wins only if it is strictly better.
 #![tactic(auto)]
 
-ghost use Rattle.std.specs.Prelude.{◌≡◌};
+ghost use Rattle.std.specs.Prelude.{◌≡◌, length};
 ghost use Rattle.rules.specs.Wheels.{Legal, words};
 ghost use Rattle.rules.specs.Promises.{Grants};
 ghost use Rattle.line.specs.Tables.{Sound};
@@ -17,7 +17,7 @@ use rules::{Grant, PathSlot, Wheel, Words};
 // The best of all starts.
 fn search(heads: &mut [u16], tails: &mut [u16], task: Task) -> Found
     requires sound { Sound task }
-    requires* fact { do ⌜ ((← ⟦heads.len()⟧) ≡ 4096) × ((← ⟦tails.len()⟧) ≡ 4096) ⌝ }
+    requires in_bounds { (length heads.old ≡ 4096) × (length tails.old ≡ 4096) }
     ensures { Sofar task task.wheel.n result }
 {
     let n = task.wheel.n;

@@ -1,7 +1,7 @@
 // The heads of one position: what a packet that begins there and all that follows it come to.
 #![tactic(auto)]
 
-ghost use Rattle.std.specs.Prelude.{◌≡◌, ℕ, ◌+◌, ◌-◌, ◌*◌, ◌<◌, ◌≤◌, min};
+ghost use Rattle.std.specs.Prelude.{◌≡◌, ℕ, ◌+◌, ◌-◌, ◌*◌, ◌<◌, ◌≤◌, min, length};
 ghost use Rattle.line.specs.Tables.{Sound, entry, pack_most};
 ghost use Rattle.line.specs.Rows.{Filled, HeadRow, Held};
 
@@ -10,7 +10,7 @@ use line::Task;
 // The heads at p become the most that a packet of 1 to m slots and the tail after it come to.
 fn packets(heads: &mut [u16], tails: &[u16], task: Task, p: usize, m: usize, cap: usize)
     requires sound { Sound task }
-    requires* fact { do ⌜ (p + m < 64) × (m ≤ cap) × (cap < 64) × ((← ⟦heads.len()⟧) ≡ 4096) × ((← ⟦tails.len()⟧) ≡ 4096) ⌝ }
+    requires in_bounds { (p + m < 64) × (m ≤ cap) × (cap < 64) × (length heads.old ≡ 4096) × (length tails.now ≡ 4096) }
     requires by_index { (q i : ℕ) → 1 ≤ q → q ≤ m → q + i ≤ cap → entry tails.now (p + q - 1) i ≤ 4097 }
     ensures { Filled heads.old heads.new (p * 64) (cap + 1) (λ k. pack_most task tails.now p k 1 (min m k)) }
 {
@@ -28,7 +28,7 @@ fn packets(heads: &mut [u16], tails: &[u16], task: Task, p: usize, m: usize, cap
 // another may follow at once.
 pub fn head_row(heads: &mut [u16], tails: &[u16], task: Task, p: usize, f: usize, cap: usize)
     requires sound { Sound task }
-    requires* fact { do ⌜ (p + f < 64) × (cap < 64) × ((← ⟦heads.len()⟧) ≡ 4096) × ((← ⟦tails.len()⟧) ≡ 4096) ⌝ }
+    requires in_bounds { (p + f < 64) × (cap < 64) × (length heads.old ≡ 4096) × (length tails.now ≡ 4096) }
     requires held { Held task heads.old tails.now p f cap }
     ensures { HeadRow task cap (cap + 1) p f tails.now heads.old heads.new }
 {

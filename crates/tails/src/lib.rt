@@ -1,7 +1,7 @@
 // The tails of one position: what can follow a run that has ended there.
 #![tactic(auto)]
 
-ghost use Rattle.std.specs.Prelude.{◌≡◌, ◌+◌, ◌-◌, ◌*◌, ◌<◌, ◌≤◌, leb};
+ghost use Rattle.std.specs.Prelude.{◌≡◌, ◌+◌, ◌-◌, ◌*◌, ◌<◌, ◌≤◌, leb, length};
 ghost use Rattle.line.specs.Values.{or_none};
 ghost use Rattle.line.specs.Tables.{Sound, most_of};
 ghost use Rattle.line.specs.Rows.{Filled, TailsMore, TailRow};
@@ -10,7 +10,7 @@ use line::Task;
 
 // The tails at e become the best heads at the positions from e + 2 to before `end`.
 fn window(tails: &mut [u16], heads: &[u16], e: usize, end: usize, cap: usize)
-    requires* { do ⌜ (e < 64) × (end ≤ 64) × (cap < 64) × ((← ⟦heads.len()⟧) ≡ 4096) × ((← ⟦tails.len()⟧) ≡ 4096) ⌝ }
+    requires { (e < 64) × (end ≤ 64) × (cap < 64) × (length heads.now ≡ 4096) × (length tails.old ≡ 4096) }
     ensures { Filled tails.old tails.new (e * 64) (cap + 1) (λ k. most_of heads.now k (e + 2) (end - (e + 2))) }
 {
     fills::clear(tails, e * 64, cap + 1);
@@ -33,7 +33,7 @@ fn wrap(task: Task, e: usize) -> u16
 // nothing, the tails at e + 1 have most of that.
 fn tails_more(tails: &mut [u16], heads: &[u16], task: Task, e: usize, cap: usize)
     requires sound { Sound task }
-    requires* fact { do ⌜ (e + 2 ≤ task.wheel.n) × (cap < 64) × ((← ⟦heads.len()⟧) ≡ 4096) × ((← ⟦tails.len()⟧) ≡ 4096) ⌝ }
+    requires in_bounds { (e + 2 ≤ task.wheel.n) × (cap < 64) × (length heads.now ≡ 4096) × (length tails.old ≡ 4096) }
     ensures { TailsMore task cap e heads.now tails.old tails.new }
 {
     let n = task.wheel.n;
@@ -51,7 +51,7 @@ fn tails_more(tails: &mut [u16], heads: &[u16], task: Task, e: usize, cap: usize
 // The tails at e, of 0 to `cap` slots.
 pub fn tail_row(tails: &mut [u16], heads: &[u16], task: Task, e: usize, cap: usize)
     requires sound { Sound task }
-    requires* fact { do ⌜ (e + 2 ≤ task.wheel.n) × (cap < 64) × ((← ⟦heads.len()⟧) ≡ 4096) × ((← ⟦tails.len()⟧) ≡ 4096) ⌝ }
+    requires in_bounds { (e + 2 ≤ task.wheel.n) × (cap < 64) × (length heads.now ≡ 4096) × (length tails.old ≡ 4096) }
     ensures { TailRow task cap (cap + 1) e heads.now tails.old tails.new }
 {
     tails_more(tails, heads, task, e, cap);

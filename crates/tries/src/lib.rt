@@ -2,7 +2,7 @@
 // better than the starts before it.
 #![tactic(auto)]
 
-ghost use Rattle.std.specs.Prelude.{◌≡◌, true, false, ◌⊎◌, ◌+◌, ◌<◌, ◌≤◌};
+ghost use Rattle.std.specs.Prelude.{◌≡◌, true, false, ◌⊎◌, ◌+◌, ◌<◌, ◌≤◌, length};
 ghost use Rattle.line.specs.Tables.{Sound};
 ghost use Rattle.optimum.specs.Search.{Sofar, Short};
 
@@ -34,7 +34,7 @@ pub fn try_start(
     best: Found,
 ) -> Found
     requires sound { Sound task }
-    requires* fact { do ⌜ (start.0 < task.wheel.n) × ((← ⟦heads.len()⟧) ≡ 4096) × ((← ⟦tails.len()⟧) ≡ 4096) ⌝ }
+    requires in_bounds { (start.0 < task.wheel.n) × (length heads.old ≡ 4096) × (length tails.old ≡ 4096) }
     requires short { Short task task.wheel.p least × Sofar task start.0 best }
     ensures { Sofar task (start.0 + 1) result }
 {

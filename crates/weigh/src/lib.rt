@@ -52,7 +52,7 @@ pub fn weigh(
     cap: usize,
 ) -> usize
     requires sound { Sound task }
-    requires* fact { do ⌜ (start.0 < task.wheel.n) × (cap < 64) × ((← ⟦heads.len()⟧) ≡ 4096) × ((← ⟦tails.len()⟧) ≡ 4096) ⌝ }
+    requires in_bounds { (start.0 < task.wheel.n) × (cap < 64) × (length heads.old ≡ 4096) × (length tails.old ≡ 4096) }
     ensures { Weighed task start.0 cap heads.new tails.new result }
 {
     let near = first_cap(task.wheel.n, least, cap);

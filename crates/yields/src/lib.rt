@@ -3,7 +3,7 @@
 // A head is for a packet that begins at the position; a tail is for a run that has ended there.
 #![tactic(auto)]
 
-ghost use Rattle.std.specs.Prelude.{◌≡◌, cond, ◌+◌, ◌<◌};
+ghost use Rattle.std.specs.Prelude.{◌≡◌, cond, ◌+◌, ◌<◌, length};
 ghost use Rattle.line.specs.Tables.{Sound};
 ghost use Rattle.line.specs.Rows.{Solved};
 
@@ -21,7 +21,7 @@ fn grown(clear: bool, f: usize) -> usize
 // Both tables at `start`, for 0 to `cap` slots, from the last position to the first.
 pub fn fill(heads: &mut [u16], tails: &mut [u16], task: Task, start: PathSlot, cap: usize)
     requires sound { Sound task }
-    requires* fact { do ⌜ (start.0 < task.wheel.n) × (cap < 64) × ((← ⟦heads.len()⟧) ≡ 4096) × ((← ⟦tails.len()⟧) ≡ 4096) ⌝ }
+    requires in_bounds { (start.0 < task.wheel.n) × (cap < 64) × (length heads.old ≡ 4096) × (length tails.old ≡ 4096) }
     ensures { Solved task start.0 cap heads.new tails.new }
 {
     let mut f = 0;
