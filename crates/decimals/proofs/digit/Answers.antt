@@ -1,5 +1,4 @@
 -- A byte below the digits, above them, or one of them.
-use borrow.Author.Rules.{rules}
 use borrow.Author.Tests.{lt-ltb, le-ltb}
 use Rattle.grammar.specs.Decimals.{digit}
 use Rattle.decimals.proofs.digit.Goals as goal

@@ -1,6 +1,5 @@
 -- Past the end there is no digit; elsewhere the text from there on begins with the byte.
 use mathlib.Core.Path.{sym, ap, ◌∙◌}
-use borrow.Author.Rules.{rules}
 use lib.ListN.{drop_of_length-le}
 use lib.Seq.{drop-cons}
 use Rattle.grammar.specs.Decimals.{leading}

@@ -1,20 +1,10 @@
 -- The loop reads one field a turn.
 use mathlib.Core.Path.{◌≡◌}
-use Prim.Native.Nat.{◌+◌, ◌-◌}
 use native.Mathlib.Omega.{arith}
 use borrow.Author.Tests.{not-true, not-false}
-use lib.ListN.{length}
-use Rattle.decimals.specs.Meaning.{NumberAt}
 use Rattle.decimals.specs.Digits.{was_found, was_missing}
-use Rattle.decimals.specs.Columns.{Going, going_start, going_on, going_end, too_many, no_space, not_numbered, no_split}
+use Rattle.decimals.specs.Columns.{going_start, going_on, going_end, too_many, no_space, not_numbered, no_split}
 use Rattle.decimals.proofs.fields_at.Goals as goal
-
--- the number that the turn has read
-number_there : (c : tie.Else3 invariant-loop decreases-loop)
-    → NumberAt c.before.before.before.before.before.before.before.before.before.before.args.line.now
-    (c.before.before.before.before.before.before.before.loop.i + 1)
-    c.before.before.number_at.result.value c.before.before.number_at.result.next
-number_there c = was_found _ _ _ c.before.before.number_at.ensures (not-false _ c.if3.false)
 
 pub loop-i-init : goal.loop-i-init
 loop-i-init c = going_start _ _ _ c.zeros-values.ensures
@@ -35,16 +25,14 @@ returns-then-not-n c =
     let missing = was_missing _ _ _ c.number_at-n.ensures (not-true _ c.if-not-n.true) in
     no_split _ _ _ c.no_fields-then-not-n.ensures (not_numbered _ _ _ _ _ c.loop-i.invariant c.loop-i-test.true missing)
 
-pub bounds-values-count : goal.bounds-values-count
-bounds-values-count c =
-    omega (arith, c.loop-i.invariant.most, c.if-count-eq19.false)
-
 pub loop-i-smaller : goal.loop-i-smaller
-loop-i-smaller c = omega (arith, c.loop-i-test.true, (number_there c).on)
+loop-i-smaller c =
+    let there = was_found _ _ _ c.number_at-n.ensures (not-false _ c.if-not-n.false) in omega (arith, there.on)
 
 pub loop-i-preserved : goal.loop-i-preserved
 loop-i-preserved c =
-    going_on _ _ _ _ _ c.loop-i.invariant c.loop-i-test.true _ _ c.if-line-i-ne32.false (number_there c) c.if-count-eq19.false
+    let there = was_found _ _ _ c.number_at-n.ensures (not-false _ c.if-not-n.false) in
+    going_on _ _ _ _ _ c.loop-i.invariant c.loop-i-test.true _ _ c.if-line-i-ne32.false there c.if-count-eq19.false
 
 pub returns : goal.returns
 returns c = going_end _ _ _ _ _ c.loop-i.invariant c.loop-i-test.false

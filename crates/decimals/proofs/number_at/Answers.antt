@@ -1,10 +1,8 @@
 -- The loop goes on along the digits: those up to `next` are the digits of `value`, and d is the digit that follows.
 use mathlib.Core.Path.{◌≡◌}
-use Prim.Native.Nat.{◌+◌, ◌-◌, ◌*◌, ◌≤◌, ◌<◌}
+use Prim.Native.Nat.{◌+◌, ◌*◌, ◌≤◌, ◌<◌}
 use native.Mathlib.Omega.{arith}
-use lib.ListN.{length, drop}
-use Rattle.grammar.specs.Decimals.{leading}
-use Rattle.decimals.specs.Digits.{Sofar, first_digit, no_digit, next_digit, zero_first, too_large, digit_inside, missing, found}
+use Rattle.decimals.specs.Digits.{first_digit, no_digit, next_digit, zero_first, too_large, digit_inside, missing, found}
 use Rattle.decimals.proofs.number_at.Goals as goal
 
 pub returns-then-value-gt9 : goal.returns-then-value-gt9
@@ -43,7 +41,7 @@ loop-d-smaller c =
 pub loop-d-preserved : goal.loop-d-preserved
 loop-d-preserved c =
     let at = c.loop-d in
-    let some : 0 < at.value = omega (arith, c.if-value-eq0.false) in
+    let some : 0 < at.value = omega arith in
     let small : at.value * 10 + at.d ≤ 65535 = omega (arith, c.if-value-gt65535.false) in (
       next_digit _ _ _ _ at.d at.invariant.0 at.invariant.1 c.loop-d-test.true some small,
       c.digit_at-d-in-loop-d.ensures,

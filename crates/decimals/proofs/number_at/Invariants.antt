@@ -1,10 +1,9 @@
 -- The loop goes on along the digits: those up to `next` are the digits of `value`, and d is the digit that follows.
 use mathlib.Core.Path.{◌≡◌}
-use Prim.Native.Nat.{◌+◌, ◌-◌, ◌*◌, ◌≤◌, ◌<◌}
-use native.Mathlib.Omega.{arith}
+use Prim.Native.Nat.{◌-◌}
 use lib.ListN.{length, drop}
 use Rattle.grammar.specs.Decimals.{leading}
-use Rattle.decimals.specs.Digits.{Sofar, first_digit, no_digit, next_digit, zero_first, too_large, digit_inside, missing, found}
+use Rattle.decimals.specs.Digits.{Sofar}
 use Rattle.decimals.proofs.number_at.Given as goal
 
 abbrev pub invariant-loop-d : goal.invariant-loop-d

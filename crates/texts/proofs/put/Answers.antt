@@ -1,6 +1,7 @@
 -- The first i bytes of the text stand at their places.
 use mathlib.Core.Path.{◌≡◌, sym, ap, ◌∙◌}
-use Prim.Native.Nat.{◌+◌, ◌-◌, ◌≤◌, ◌<◌}
+use mathlib.Core.List.{List}
+use Prim.Native.Nat.{ℕ, ◌+◌, ◌≤◌, ◌<◌}
 use native.Mathlib.Omega.{arith}
 use native.Mathlib.Numerals.{add-one}
 use lib.ListN.{length, get_or, set}
@@ -9,16 +10,14 @@ use Rattle.texts.specs.Puts.{puts_copied}
 use Rattle.texts.proofs.put.Goals as goal
 
 -- the buffer keeps its length
-kept : (c : tie.At-loop invariant-loop decreases-loop) → length c.loop.out ≡ length c.before.args.out.now
-kept c =
-    let a = c.before.args in
-    ap length c.loop.invariant.1 ∙ length-paste a.out.now a.at a.text.now c.loop.i (omega arith) c.loop.invariant.0
+kept : (old text out : List ℕ) (at i : ℕ) → out ≡ paste old at text i → at + length text ≤ length old → i ≤ length text → length out ≡ length old
+kept old text out at i e h l = ap length e ∙ length-paste old at text i (omega arith) l
 
 pub loop-i-init : goal.loop-i-init
 loop-i-init c = let a = c.args in (omega arith, paste-zero a.out.now a.at a.text.now)
 
 pub bounds-out-at : goal.bounds-out-at
-bounds-out-at c = omega (arith, kept c)
+bounds-out-at c = let at = c.loop-i in omega (arith, kept _ _ _ _ _ at.invariant.1 c.requires at.invariant.0)
 
 pub loop-i-preserved : goal.loop-i-preserved
 loop-i-preserved c =
@@ -32,7 +31,7 @@ loop-i-preserved c =
     )
 
 pub shape_of-out : goal.shape_of-out
-shape_of-out c = kept c
+shape_of-out c = let at = c.loop-i in kept _ _ _ _ _ at.invariant.1 c.requires at.invariant.0
 
 pub returns : goal.returns
 returns c =

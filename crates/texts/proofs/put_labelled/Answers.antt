@@ -1,5 +1,4 @@
 -- The word, then the field.
-use borrow.Author.Rules.{rules}
 use Rattle.grammar.specs.Text.{field}
 use Rattle.texts.specs.Puts.{puts_then, room_first, room_second}
 use Rattle.texts.proofs.put_labelled.Goals as goal

@@ -1,19 +1,24 @@
 -- The digits of `io::decimal` are those of the number.
+use Rattle.std.specs.Prelude.{List, ℕ, ◌^◌, ◌<◌}
 use mathlib.Core.Path.{◌≡◌, ap, ◌∙◌}
 use native.Mathlib.Omega.{arith}
-use borrow.Author.Rules.{rules}
 use lib.ListN.{length, take}
+use Rattle.io.specs.Digits.{IsDigitCount, last_digits}
 use Rattle.grammar.specs.Text.{decimal}
 use Rattle.texts.specs.Puts.{puts_same}
 use Rattle.texts.specs.Digits.{decimal_is}
 use Rattle.texts.proofs.put_number.Goals as goal
 
 -- what `io::decimal` has left in its array
-spelled : (c : tie.After-decimal) → take c.decimal.result c.decimal.new.1.0 ≡ decimal c.before.before.before.args.n
-spelled c = c.decimal.ensures.1.1 ∙ decimal_is _ _ c.decimal.ensures.1.0 (omega (arith, c.before.before.before.ranges.n))
+spelled : (n k : ℕ) (out : List ℕ) → IsDigitCount 10 1 n k → n < 2 ^ 64 → take k out ≡ last_digits 10 k n → take k out ≡ decimal n
+spelled n k out f h e = e ∙ decimal_is n k f h
 
 pub put-requires : goal.put-requires
-put-requires c = omega (arith, ap length (spelled c), c.requires)
+put-requires c =
+    let d = c.decimal-k in
+    omega (arith, ap length (spelled _ _ _ d.ensures.len (omega arith) d.ensures.digits), c.requires)
 
 pub returns : goal.returns
-returns c = puts_same _ _ (spelled c) c.put.ensures
+returns c =
+    let d = c.decimal-k in
+    puts_same _ _ (spelled _ _ _ d.ensures.len (omega arith) d.ensures.digits) c.put.ensures

@@ -1,14 +1,14 @@
 -- The slots below s are printed.
 use mathlib.Core.Path.{◌≡◌, ap}
-use mathlib.Core.Logic.{⊎_elim}
-use Prim.Native.Nat.{◌-◌, ◌≤◌, ◌<◌}
+use Prim.Native.Nat.{◌<◌}
 use native.Mathlib.Omega.{arith}
 use borrow.Author.Tests.{eq-eqb, ne_eqb}
 use Rattle.rules.specs.Sets.{has, places}
 use Rattle.grammar.specs.Text.{fields}
-use Rattle.texts.specs.Puts.{Puts, puts_nothing, puts_same}
+use Rattle.texts.specs.Puts.{puts_nothing, puts_same}
 use Rattle.texts.specs.Slots.{slot_room, slot_yes, slot_no, slots_length}
 use Rattle.texts.proofs.put_slots.Goals as goal
+use Rattle.texts.proofs.put_slots.Goals.{then-slots-s-eq1, else-slots-s-eq1}
 
 pub loop-s-init : goal.loop-s-init
 unfolding places fields
@@ -35,10 +35,11 @@ loop-s-preserved c =
     let f = has c.args.slots in
     let below : at.s < 64 = omega (arith, c.loop-s-test.true) in (
       omega arith,
-      ⊎_elim
-          (λ w. rw (w.5, w.6) (slot_yes f at.s at.invariant.1 (eq-eqb _ _ w.0.taken) below c.requires w.2.ensures))
-          (λ w. rw (w.1, w.2) (slot_no f at.s at.invariant.1 (ne_eqb _ _ w.0.left)))
-          c.if-slots-s-eq1.branch,
+      elim c.if-slots-s-eq1.branch [
+        | then-slots-s-eq1 w ↦
+            rw (w.out-is, w.next-is) (slot_yes f at.s at.invariant.1 (eq-eqb _ _ w.if-slots-s-eq1.true) below c.requires w.put_field-next.ensures)
+        | else-slots-s-eq1 w ↦ rw (w.out-is, w.next-is) (slot_no f at.s at.invariant.1 (ne_eqb _ _ w.if-slots-s-eq1.false))
+      ],
     )
 
 pub shape_of-out : goal.shape_of-out
