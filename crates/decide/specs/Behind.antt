@@ -1,6 +1,6 @@
 -- From parts to the whole: behind the gate, and behind the tests of an opening, where bare selection decides what is left.
-use Rattle.std.specs.Prelude.{◌≡◌, List, ◌⊎◌, ℕ, ◌≤◌}
-use Rattle.std.proofs.Common.{inl, inr, arith}
+use Rattle.std.specs.Prelude.{◌≡◌, Bool, false, List, ◌⊎◌, ℕ, ◌≤◌}
+use Rattle.std.proofs.Common.{subst, inl, inr, arith}
 use Rattle.rules.specs.declared.Demand.{Demand}
 use Rattle.rules.specs.declared.Record.{Record}
 use Rattle.rules.specs.declared.Call.{Call}
@@ -17,11 +17,19 @@ use Rattle.rules.specs.Orders.{checked, asked_lines, room_lines}
 use Rattle.rules.specs.Promises.{Selects}
 use Rattle.laws.specs.Refusals.{behind, past, passes_then}
 use Rattle.ledger.specs.Claims.{free_below}
-use Rattle.decide.specs.Decisions.{of_selected, Settles, DecidesOwn, Decides}
+use Rattle.decide.specs.declared.Gate.{Gate}
+use Rattle.decide.specs.declared.Gate.TheVariants.{Through}
+use Rattle.decide.specs.Decisions.{Gates, of_selected, Settles, DecidesOwn, Decides}
 
 pub neither_of : {P Q : Type 0} → ¬ P → ¬ Q → ¬ (P ⊎ Q)
 neither_of p q (inl x) = p x
 neither_of p q (inr y) = q y
+
+-- the gate was passed
+pub through : (chip : Chip) (t : List ℕ) (n : ℕ) (agreed : Bool) (g : Gate) → g ≡ Through → Gates chip t n (agreed ≡ false) g
+    → Passes (checked chip t n (agreed ≡ false))
+unfolding Gates
+through chip t n agreed g e h = subst (Gates chip t n (agreed ≡ false)) e h
 
 -- behind the gate
 pub decides_behind : (chip : Chip) (t : List ℕ) (n : ℕ) (disagree : Type 0) (r : Record) (call : Call) (v : Verb) (a : Answer)

@@ -14,14 +14,8 @@ use Rattle.ledger.specs.Lines.{checked_ready}
 use Rattle.decide.specs.declared.Gate.{Gate}
 use Rattle.decide.specs.declared.Gate.TheVariants.{Through}
 use Rattle.decide.specs.Decisions.{Gates, Settles}
-use Rattle.decide.specs.Behind.{decides_behind}
+use Rattle.decide.specs.Behind.{through, decides_behind}
 use Rattle.decide.proofs.decide.Goals as goal
-
--- the gate was passed
-through : (chip : Chip) (t : List ℕ) (n : ℕ) (agreed : Bool) (g : Gate) → g ≡ Through → Gates chip t n (agreed ≡ false) g
-    → Passes (checked chip t n (agreed ≡ false))
-unfolding Gates
-through chip t n agreed g e h = subst (Gates chip t n (agreed ≡ false)) e h
 
 pub decide_own-requires : goal.decide_own-requires
 decide_own-requires c =
