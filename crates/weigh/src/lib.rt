@@ -43,6 +43,7 @@ fn first_cap(n: usize, least: usize, cap: usize) -> usize
 
 // Fills the tables at `start` as far as they are needed, and says the fewest slots, up to `cap`,
 // that are worth more than the words asked for; cap + 1 where there are none.
+#[tactic(auto, using(optimum::specs::Search::weighed))]
 pub fn weigh(
     heads: &mut [u16],
     tails: &mut [u16],

@@ -1,13 +1,9 @@
 -- The first tables do where they hold a number that is worth enough, or are whole; else the whole tables do.
 use mathlib.Core.Path.{refl, ◌∙◌}
-use mathlib.Core.Logic.{inl, inr}
+use mathlib.Core.Logic.{inr}
 use native.Mathlib.Omega.{arith}
 use Rattle.optimum.specs.Search.{weighed}
 use Rattle.weigh.proofs.weigh.Goals as goal
-
-pub returns-then-k-near : goal.returns-then-k-near
-returns-then-k-near c =
-    weighed c.first_cap-near.ensures c.fill.ensures c.first_over-k.ensures (inl c.if-k-near.true)
 
 pub returns-then-near-cap : goal.returns-then-near-cap
 returns-then-near-cap c =
