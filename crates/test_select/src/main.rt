@@ -126,7 +126,10 @@ fn show(rt: HostRuntime, name: &str, f: Found) -> io::Result<()> {
     if f.no != 0 {
         return println!(rt; "{name}: refused {}", f.no);
     }
-    println!(rt; "{name}: set {} slots {} words {}", f.slots, f.count, f.words)
+    println!(rt;
+        "{name}: set {} slots {} words {}",
+        f.slots, f.count, f.words
+    )
 }
 
 // Bare selection on the default wheel.
@@ -370,8 +373,14 @@ fn all_wheels(s: u16, h: u16, p: usize) -> Tally {
 // Prints what was counted on the wheels with these values.
 fn sweep(rt: HostRuntime, s: u16, h: u16, p: usize) -> io::Result<()> {
     let t = all_wheels(s, h, p);
-    print!(rt; "S {s} H {h} P {p}: {} selections, {} differ; ", t.tried, t.differ)?;
-    println!(rt; "{} granted, {} refused 13, {} refused 14", t.granted, t.too_much, t.too_far)
+    print!(rt;
+        "S {s} H {h} P {p}: {} selections, {} differ; ",
+        t.tried, t.differ
+    )?;
+    println!(rt;
+        "{} granted, {} refused 13, {} refused 14",
+        t.granted, t.too_much, t.too_far
+    )
 }
 
 fn main(rt: HostRuntime) -> io::Result<()> {

@@ -5,8 +5,7 @@
 
 use apart::Found;
 use rules::{Selected, Wheel, Words};
-use std::fs;
-use std::io;
+use std::{fs, io};
 
 // What was read of a line: the numbers of its fields so far, which field is being read, how many
 // bytes of it were, and whether all of them were in place. Field 7 is the arrow.
@@ -287,7 +286,10 @@ fn vectors(text: &[u8]) -> Tally {
 // Prints what was counted.
 fn show(rt: HostRuntime, t: Tally) -> io::Result<()> {
     print!(rt; "{} vectors, {} differ; ", t.vectors, t.differ)?;
-    println!(rt; "{} at N 64 with 60 or more free slots and 20 to 40 granted", t.large)
+    println!(rt;
+        "{} at N 64 with 60 or more free slots and 20 to 40 granted",
+        t.large
+    )
 }
 
 // The vectors of one file, of less than 65,536 bytes.
