@@ -2,8 +2,9 @@
 # Sourced by the scripts that run a program of ours, make an archive or link one. The script names itself in `me` first.
 #
 #     build program NAME          proves and builds a program where it is missing or old; `built` is then its path
-#     build code NAME FILE...     the same with the code of a library for C, as the kit hands it to its compiler (LLVM bitcode);
-#                                 the files were made from old code, and go with it
+#     build code NAME FILE...     the same with the code of a static library, as the kit hands it to its compiler (LLVM
+#                                 bitcode); the words that it hands it with stand beside it, a line each, in NAME.words. The
+#                                 files were made from old code, and go with it
 #     processor_of [NAME]         `processor` is the one that is named, or this machine's own; ends the script where we make
 #                                 no archive for it
 #     for_processor               `compiler` builds C for `processor`, with the words `link`, and `emulator` runs it; on the
@@ -62,7 +63,7 @@ rust() { # SOURCE PROGRAM
 # Where the kit stands.
 kit() {
     local guide
-    guide=$(rt doc) && cd "${guide%/docs/*}" && pwd
+    guide=$(rt doc) && cd "${guide%/*}" && pwd
 }
 
 links() { # FROM TO NAME    links in TO to all that FROM holds, but NAME
@@ -70,30 +71,23 @@ links() { # FROM TO NAME    links in TO to all that FROM holds, but NAME
     find "$1" -mindepth 1 -maxdepth 1 ! -name "$3" -exec ln -s -t "$2" {} +
 }
 
-# A folder of links to the kit in which the compiler is a script of ours: it puts the code that it is handed into kept.bc
-# beside its folder, and then compiles as asked.
-stand_in() { # FOLDER
-    local from own
-    from=$(kit)
-    own=on/$(uname -m)
-    rm -rf "$1"
-    links "$from" "$1" on
-    links "$from/$own" "$1/$own" toolchain
-    links "$from/$own/toolchain" "$1/$own/toolchain" bin
-    links "$from/$own/toolchain/bin" "$1/$own/toolchain/bin" clang
-    ln -s "$from/$own/toolchain/bin" "$1/$own/toolchain/real"
-    cat > "$1/$own/toolchain/bin/clang" << 'SCRIPT'
+# A folder of links to the kit's compilers in which clang is a script of ours: it puts the code that it is handed into kept.bc
+# there, and the words into kept.words, and then compiles as asked.
+stand_in() { # KIT FOLDER
+    links "$1/toolchain" "$2" bin
+    links "$1/toolchain/bin" "$2/bin" clang
+    cat > "$2/bin/clang" << SCRIPT
 #!/bin/sh
-tools=${0%/bin/clang}
 for word; do
-    case $word in *.bc) cp "$word" "$tools/kept.bc" || exit ;; esac
+    case \$word in *.bc) cp "\$word" '$2/kept.bc' || exit ;; esac
 done
-exec "$tools/real/clang" "$@"
+printf '%s\n' "\$@" > '$2/kept.words' || exit
+exec '$1/toolchain/bin/clang' "\$@"
 SCRIPT
-    chmod +x "$1/$own/toolchain/bin/clang"
+    chmod +x "$2/bin/clang"
 }
 
-# The crate and every crate of the repository that it stands on, a line each.
+# The crate and every crate of the repository that it stands on, a line each, in the order in which rt proves them.
 crates_of() { # NAME
     awk -v name="$1" '
         function visit(n, below, i, k) {
@@ -104,7 +98,7 @@ crates_of() { # NAME
             print n
         }
         { sub(/#.*/, "") }
-        split($0, part, ":") == 2 { gsub(/[ \t]/, "", part[1]); deps[part[1]] = part[2] }
+        split($0, part, ":") == 2 { split(part[1], word, " "); deps[word[1]] = part[2] }
         END { visit(name) }' "$top/crates.txt"
 }
 
@@ -112,40 +106,65 @@ crates_of() { # NAME
 fresh() { # MARK CRATE...
     local mark=$1
     shift
-    [ -e "$built" ] && [ -e "$mark" ] && [ "$(cat "$mark")" = "$(rt version)" ] &&
-        [ -z "$(find "$top/crates.txt" "${@/#/$top/crates/}" -name must-fail -prune -o -newer "$mark" -print -quit)" ]
+    [ -e "$built" ] && [ -e "$mark" ] && [ "$(cat "$mark")" = "$(rt version)" ] && [ ! "$top/crates.txt" -nt "$mark" ] &&
+        [ -z "$(find "${@/#/$top/crates/}" -mindepth 1 \( -name must-fail -o -name out \) -prune -o -newer "$mark" -print -quit)" ]
 }
 
-# What the build runs, in a process group of its own. rt staticlib proves one crate after the other, rt check several at once.
-prove() { # KIND NAME CRATE...
-    cd "$top" || return
-    if [ "$1" = program ]; then
-        rt check "$2"
-    else
-        [ $# = 3 ] || rt check "${@:3:$#-3}" || return
-        local began=$SECONDS
-        RATTLE_HOME=$top/target/kit rt staticlib "$2" && echo "rt: $2 proved ($((SECONDS - began)) s)"
-    fi
+# Builds a static library over the libraries below it as they stand in their out/, by the compiler of the folder.
+compile() { # NAME FOLDER CRATE...
+    local kit below=() crate
+    kit=$(kit) || return
+    for crate in "${@:3}"; do
+        [ "$crate" = "$1" ] || below+=(--extern "$crate=$top/crates/$crate/out/rlib/$crate.rlib")
+    done
+    "$kit/bin/rattle" build --crate-name "$1" --crate-type staticlib src/lib.rt --extern "std=$kit/rlibs/std.rlib" \
+        -L "dependency=$kit/rlibs" "${below[@]}" --antt-project "$kit/rattle/logic/antt-project.json" \
+        --logic-built "$kit/logic_built" --incremental out/incremental --backend llvm --toolchain "$2" -o "$2/lib$1.a"
 }
 
-# Says which crates of the log were proved since it was last asked.
-progress() { # LOG BEGAN COUNT
-    local name took
-    while read -r name took; do
+# What the build runs, in a process group of its own. rt builds no program without running it, so it gets no input.
+prove() { # KIND NAME FOLDER CRATE...
+    cd "$top/crates/$2" || return
+    case $1 in
+        program) rt run > /dev/null ;;
+        code)
+            # `.ci/run` says so where the libraries in out/ are those that rt ci has just proved
+            if [ -n "${JELLYSPIRE_PROVED:-}" ]; then
+                mkdir -p out
+                compile "${@:2}" && return
+            fi
+            rt check && compile "${@:2}"
+            ;;
+    esac
+}
+
+# The crates that the log names, a line each: `begun NAME`, and then `proved NAME`.
+events() { # LOG
+    awk '/^rt: chose --jobs [0-9]+ for / { name = $NF; print "begun", name }
+         /^logic=proved / && name { print "proved", name; name = "" }' "$1"
+}
+
+# Says which crates of the log were proved since it was last asked; `hand` is the crate that is in hand.
+progress() { # LOG COUNT
+    local event name took
+    hand=
+    while read -r event name; do
+        hand=$name place=${places[$name]:-$place}
+        [ -n "${since[$name]:-}" ] || since[$name]=$SECONDS
+        [ "$event" = proved ] || continue
+        hand=
         [ -z "${proved[$name]:-}" ] || continue
-        proved[$name]=1
-        case $took in unchanged*) continue ;; esac
-        last="; $name took $took"
-        [ -t 2 ] || tell "crate ${#proved[@]} of $3 proved: $name, $took"
-    done < <(sed -n 's/^rt: \([A-Za-z0-9_]*\) proved (\(.*\))$/\1 \2/p' "$1")
-    [ ! -t 2 ] || printf '\r\033[K%s: %d of %d crates proved, %d s%s' "$me" "${#proved[@]}" "$3" $((SECONDS - $2)) "$last" >&2
+        proved[$name]=1 took=$((SECONDS - since[$name]))
+        [ -t 2 ] || tell "crate $place of $2 proved: $name, $took s"
+    done < <(events "$1")
+    [ ! -t 2 ] || printf '\r\033[K%s: crate %d of %d%s, %d s' "$me" "$place" "$2" "${hand:+: $hand}" $((SECONDS - began)) >&2
 }
 
 # Ends the build with all that it has started: rt's own jobs do not hear the terminal's Ctrl-C.
 halt() {
     [ -z "$job" ] || kill -TERM -- "-$job" 2> /dev/null || true
     [ -z "$job" ] || wait "$job" 2> /dev/null || true
-    rm -rf "$top/target/kit"
+    rm -rf "$keeper" "$mark.new"
     wipe
 }
 
@@ -159,52 +178,47 @@ ended_by() { # SIGNAL
 }
 
 build() { # KIND NAME FILE...
-    local kind=$1 name=$2 what="the program $2" from=$top/target/bin/$2 began=$SECONDS status=0 runs=1 bad='' last='' job='' signal crates
-    local -A proved=()
-    [ "$kind" = program ] || what="the code of $2 for C" from=$top/target/kit/on/$(uname -m)/toolchain/kept.bc
+    local kind=$1 name=$2 what="the program $2" began=$SECONDS status=0 runs=1 keeper='' job='' hand='' place=0 signal crates
+    local -A places=() since=() proved=()
     built=$top/target/built/$name
-    [ "$kind" = program ] || built+=.bc
-    local mark=$built.mark log=$built.log
+    local mark=$built.mark log=$built.log handed=$built.words
+    [ "$kind" = program ] || what="the code of $2" built+=.bc
     command -v rt > /dev/null || stop 2 "no rt on the PATH; it is a part of the Rattle kit, which proves and builds what is run here"
     mapfile -t crates < <(crates_of "$name")
     ! fresh "$mark" "${crates[@]}" || return 0
 
     tell "proving and building $what, ${#crates[@]} crates; from nothing this takes minutes"
+    for hand in "${crates[@]}"; do places[$hand]=$((${#places[@]} + 1)); done
     mkdir -p "${built%/*}"
-    rm -f "$built" "$mark" "${@:3}"
-    [ "$kind" = program ] || stand_in "$top/target/kit"
-    rt version > "$mark.new" # what changes from here on is newer
+    rm -f "$built" "$mark" "$handed" "${@:3}"
     trap halt EXIT
     for signal in HUP INT TERM; do
         # shellcheck disable=SC2064
         trap "ended_by $signal" "$signal"
     done
+    keeper=$(mktemp -d) # outside the checkout, where rt ci would refuse its links
+    [ "$kind" = program ] || stand_in "$(kit)" "$keeper"
+    rt version > "$mark.new" # what changes from here on is newer
     set -m
-    prove "$kind" "$name" "${crates[@]}" > "$log" 2>&1 < /dev/null &
+    prove "$kind" "$name" "$keeper" "${crates[@]}" > "$log" 2>&1 < /dev/null &
     job=$!
     set +m
-    while [ -n "$runs" ] && [ -z "$bad" ]; do
+    while [ -n "$runs" ]; do
         sleep 0.5
         kill -0 "$job" 2> /dev/null || runs='' # and then the log is read once more
-        progress "$log" "$began" "${#crates[@]}"
-        bad=$(awk '/^rt: [A-Za-z0-9_]+ NOT PROVED/ { print $2; exit }' "$log")
+        progress "$log" "${#crates[@]}"
     done
-    if [ -n "$runs" ]; then
-        halt # a crate is not proved, and the others need not be tried
-    else
-        wait "$job" || status=$?
-        wipe
-    fi
-    trap - EXIT HUP INT TERM
-    rm -f "$built.new"
-    if [ "$status" = 0 ] && [ -z "$bad" ] && [ -e "$from" ]; then cp "$from" "$built.new"; fi
-    rm -rf "$top/target/kit"
-
-    [ "$kind$status" != code1 ] || bad=${bad:-$name} # rt staticlib names no crate
-    [ -z "$bad" ] || stop 1 "crate $bad is not proved, so nothing was built; $top/target/log/$bad.say has what the prover said"
-    [ "$status" = 0 ] || stop 1 "nothing was built, rt ended with status $status; $log says why"
-    [ -e "$built.new" ] || stop 1 "nothing was built: the kit gave no ${from##*/}"
-    mv "$built.new" "$built"
+    wait "$job" || status=$?
+    job=
+    wipe
+    [ "$status" = 0 ] || [ -z "$hand" ] || stop 1 "crate $hand is not proved, so nothing was built; $log has what the prover said"
+    [ "$status" = 0 ] || stop 1 "nothing was built, the kit ended with status $status; $log says why"
+    case $kind in
+        program) cp "$top/crates/$name/out/$name" "$built" ;;
+        code) cp "$keeper/kept.words" "$handed" && cp "$keeper/kept.bc" "$built" ;;
+    esac || stop 1 "nothing was built: the kit gave no code"
     mv "$mark.new" "$mark"
+    halt
+    trap - EXIT HUP INT TERM
     tell "built in $((SECONDS - began)) s"
 }

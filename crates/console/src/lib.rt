@@ -1,9 +1,11 @@
-// The listing program on descriptors: what it reads and where it prints.
+// The listing program on a reader and a writer: what it reads and where it prints.
 #![tactic(auto)]
 
-ghost use Rattle.std.specs.Prelude.{◌<◌, length};
+ghost use Rattle.std.specs.Prelude.{◌≡◌, ◌<◌, ◌≤◌, length, OnOk};
+ghost use Rattle.console.specs.Printed.{Printed};
 
-use libc::STDOUT_FILENO;
+use std::io;
+use std::io::{Read, Write};
 
 // Room for the longest input and one byte more, by which a longer input is seen.
 fn input_room() -> [u8; 4097]
@@ -12,11 +14,20 @@ fn input_room() -> [u8; 4097]
     [0; 4097]
 }
 
-// Reads a descriptor to its end, or until it is too long, and prints the listing.
-pub fn run(fd: i32) {
-    let mut input = input_room();
-    let n = io::read_full(fd, &mut input);
-    let mut out = io::large_buffer();
-    let r = listing::list(&input[..n], &mut out);
-    io::write_all(STDOUT_FILENO, &out[..r]);
+// Room for the longest listing.
+fn listing_room() -> [u8; 65536]
+    ensures { 65536 ≤ length result }
+{
+    [0; 65536]
+}
+
+// Reads to the end of the input, or until it is too long, and prints the listing.
+pub fn run<R: Read, W: Write>(from: &mut R, to: &mut W) -> io::Result<()>
+    ensures { OnOk result (Printed (R.remaining from.old) (W.contents to.old) (W.contents to.new)) }
+{
+    let mut room = input_room();
+    let n = input::read_full(from, &mut room)?;
+    let mut out = listing_room();
+    let r = listing::list(&room[..n], &mut out);
+    to.write_all(&out[..r])
 }

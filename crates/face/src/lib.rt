@@ -1,8 +1,8 @@
-// Jellyspire for C: the raw boundary, which is the same on every 64-bit processor. Its functions take
-// and give integers and slices only. Each returns its number, 0 for a yes, and puts the values of a
-// yes into the array that it is lent; a no leaves every lent byte as it was, the array too. The flow
-// list is lent as bytes, 64 for each record (docs/RECORD.md). What users call stands in
-// include/jellyspire.h.
+// The raw boundary, which is the same on every 64-bit processor. Its functions take and give integers
+// and slices only. Each returns its number, 0 for a yes, and puts the values of a yes into the array
+// that it is lent; a no leaves every lent byte as it was, the array too. The flow list is lent as
+// bytes, 64 for each record (docs/RECORD.md). The crate face_c exports them to C under these names;
+// what users call stands in include/jellyspire.h.
 #![tactic(auto)]
 
 ghost use Rattle.std.specs.Prelude.{◌≡◌, min, length};
@@ -127,8 +127,7 @@ fn tell_reported(a: Reported, values: &mut [u64; 2]) -> u64
 // ---- the calls
 
 // Bare selection: slots, how many, words.
-#[unsafe(no_mangle)]
-pub extern "C" fn jellyspire_raw_select(
+pub fn jellyspire_raw_select(
     n: usize,
     s: usize,
     h: usize,
@@ -147,8 +146,7 @@ pub extern "C" fn jellyspire_raw_select(
 }
 
 // Whether table and list agree: 0, or the number of the first thing that is wrong.
-#[unsafe(no_mangle)]
-pub extern "C" fn jellyspire_raw_agree(
+pub fn jellyspire_raw_agree(
     table: &[u8],
     list: &[u8],
     n: usize,
@@ -166,8 +164,7 @@ pub extern "C" fn jellyspire_raw_agree(
 }
 
 // Free and held cells.
-#[unsafe(no_mangle)]
-pub extern "C" fn jellyspire_raw_report(
+pub fn jellyspire_raw_report(
     table: &[u8],
     list: &[u8],
     n: usize,
@@ -184,8 +181,7 @@ pub extern "C" fn jellyspire_raw_report(
 }
 
 // Opens a flow on a path of `len` channels with a demand: slots, how many, words.
-#[unsafe(no_mangle)]
-pub extern "C" fn jellyspire_raw_open(
+pub fn jellyspire_raw_open(
     table: &mut [u8],
     list: &mut [u8],
     n: usize,
@@ -215,8 +211,7 @@ pub extern "C" fn jellyspire_raw_open(
 }
 
 // Closes a flow: how many cells that cleared.
-#[unsafe(no_mangle)]
-pub extern "C" fn jellyspire_raw_close(
+pub fn jellyspire_raw_close(
     table: &mut [u8],
     list: &mut [u8],
     n: usize,
@@ -242,8 +237,7 @@ fn size_of(part: &[u8]) -> usize
 
 // Where the row of a channel starts in the table, and its length; 1 and nothing told if wheel, table
 // or channel is bad.
-#[unsafe(no_mangle)]
-pub extern "C" fn jellyspire_raw_row(
+pub fn jellyspire_raw_row(
     table: &[u8],
     n: usize,
     s: usize,

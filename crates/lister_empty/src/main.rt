@@ -1,8 +1,8 @@
 // The listing program on an empty input.
 #![tactic(auto)]
 
-use libc::STDIN_FILENO;
+use std::io;
 
-fn main() {
-    console::run(STDIN_FILENO);
+fn main(rt: HostRuntime) -> io::Result<()> {
+    console::run(&mut rt.stdin(), &mut rt.stdout())
 }

@@ -4,7 +4,7 @@
 #![tactic(auto)]
 
 use apart::Found;
-use libc::STDOUT_FILENO;
+use std::io;
 
 // How many searches were run, how many granted a set, how many were refused by 13 and by 14, and
 // the sums of the granted sets, as numbers, and of their words.
@@ -52,32 +52,15 @@ fn noted(t: Sums, f: Found) -> Sums {
     }
 }
 
-// Prints text.
-fn text(s: &[u8]) {
-    io::write_all(STDOUT_FILENO, s);
-}
-
-// Prints a number.
-fn number(v: u64) {
-    io::print_decimal(STDOUT_FILENO, v);
-}
-
 // Prints a line with what was found: a set as a number, how many slots, and words; or a no.
-fn show(name: &[u8], f: Found) {
-    text(name);
+fn show(rt: HostRuntime, name: &str, f: Found) -> io::Result<()> {
     if f.no != 0 {
-        text(b" refused ");
-        number(f.no);
-        text(b"\n");
-        return;
+        return println!(rt; "{name} refused {}", f.no);
     }
-    text(b" set ");
-    number(f.slots);
-    text(b" slots ");
-    number(f.count);
-    text(b" words ");
-    number(f.words);
-    text(b"\n");
+    println!(rt;
+        "{name} set {} slots {} words {}",
+        f.slots, f.count, f.words
+    )
 }
 
 // A search on the default wheel.
@@ -86,30 +69,30 @@ fn search(free: u64, wanted: u64, limit: u64) -> Found {
 }
 
 // P6 to P9 of document 01.
-fn examples() {
-    show(b"P6", search(117, 8, 8));
-    show(b"P7", search(25, 3, 8));
-    show(b"P7 with D 4", search(25, 3, 3));
-    show(b"P8", search(153, 5, 8));
-    show(b"P9 with D 5", search(34, 4, 4));
-    show(b"P9 with D 4", search(34, 4, 3));
+fn examples(rt: HostRuntime) -> io::Result<()> {
+    show(rt, "P6", search(117, 8, 8))?;
+    show(rt, "P7", search(25, 3, 8))?;
+    show(rt, "P7 with D 4", search(25, 3, 3))?;
+    show(rt, "P8", search(153, 5, 8))?;
+    show(rt, "P9 with D 5", search(34, 4, 4))?;
+    show(rt, "P9 with D 4", search(34, 4, 3))
 }
 
 // P10, and the searches that document 01 wants run.
-fn more_examples() {
-    show(b"P10", search(255, 21, 8));
-    show(b"P10 with W 22", search(255, 22, 8));
-    show(b"L 1 and all free", search(255, 3, 1));
-    show(b"no slot free", search(0, 1, 8));
+fn more_examples(rt: HostRuntime) -> io::Result<()> {
+    show(rt, "P10", search(255, 21, 8))?;
+    show(rt, "P10 with W 22", search(255, 22, 8))?;
+    show(rt, "L 1 and all free", search(255, 3, 1))?;
+    show(rt, "no slot free", search(0, 1, 8))
 }
 
 // Refusals, each with all later ones besides.
-fn refusals() {
-    show(b"N 0", apart::search(0, 3, 1, 3, 256, 0, 0));
-    show(b"slot 8 free", search(256, 0, 0));
-    show(b"W 0", search(0, 0, 0));
-    show(b"L 0", search(0, 1, 0));
-    show(b"N 17", apart::search(17, 3, 1, 3, 255, 1, 1));
+fn refusals(rt: HostRuntime) -> io::Result<()> {
+    show(rt, "N 0", apart::search(0, 3, 1, 3, 256, 0, 0))?;
+    show(rt, "slot 8 free", search(256, 0, 0))?;
+    show(rt, "W 0", search(0, 0, 0))?;
+    show(rt, "L 0", search(0, 1, 0))?;
+    show(rt, "N 17", apart::search(17, 3, 1, 3, 255, 1, 1))
 }
 
 // Whether two searches found the same.
@@ -168,33 +151,21 @@ fn all_free(n: u64) -> Sums {
 }
 
 // Prints the sums over all searches of a wheel.
-fn show_sums(n: u64) {
+fn show_sums(rt: HostRuntime, n: u64) -> io::Result<()> {
     let t = all_free(n);
-    text(b"N ");
-    number(n);
-    text(b": ");
-    number(t.searches);
-    text(b" searches, ");
-    number(t.granted);
-    text(b" granted, ");
-    number(t.too_much);
-    text(b" refused 13, ");
-    number(t.too_far);
-    text(b" refused 14, sets sum ");
-    number(t.slots);
-    text(b", words sum ");
-    number(t.words);
-    text(b"\n");
+    print!(rt; "N {n}: {} searches, {} granted, ", t.searches, t.granted)?;
+    print!(rt; "{} refused 13, {} refused 14, ", t.too_much, t.too_far)?;
+    println!(rt; "sets sum {}, words sum {}", t.slots, t.words)
 }
 
-fn main() {
-    examples();
-    more_examples();
-    refusals();
-    show_sums(1);
-    show_sums(2);
-    show_sums(3);
-    show_sums(4);
-    show_sums(5);
-    show_sums(6);
+fn main(rt: HostRuntime) -> io::Result<()> {
+    examples(rt)?;
+    more_examples(rt)?;
+    refusals(rt)?;
+    show_sums(rt, 1)?;
+    show_sums(rt, 2)?;
+    show_sums(rt, 3)?;
+    show_sums(rt, 4)?;
+    show_sums(rt, 5)?;
+    show_sums(rt, 6)
 }

@@ -10,6 +10,7 @@
 ghost use Rattle.std.specs.Prelude.{◌≡◌, length};
 
 use model::{Asked, Call};
+use std::io;
 use trial::{Hit, Tally};
 
 // ---- numbers
@@ -323,58 +324,54 @@ fn room(size: u64) -> [u8; 4224]
 // ---- what is printed
 
 // Prints the setup.
-fn show_setup(a: Asked) {
-    trial::field(b"N ", a.n);
-    trial::field(b" S ", a.s);
-    trial::field(b" H ", a.h);
-    trial::field(b" P ", a.p);
-    trial::field(b", channels ", a.table / 64);
-    trial::field(b", flows ", a.list / 64);
+fn show_setup(rt: HostRuntime, a: Asked) -> io::Result<()> {
+    print!(rt; "N {} S {} H {} P {}", a.n, a.s, a.h, a.p)?;
+    print!(rt; ", channels {}, flows {}", a.table / 64, a.list / 64)
 }
 
 // Prints how many there were of a kind, and how many did not do what they must.
-fn show_kind(name: &[u8], t: Tally) {
-    trial::field(name, t.calls);
-    trial::field(b" differ ", t.differ);
+fn show_kind(rt: HostRuntime, name: &str, t: Tally) -> io::Result<()> {
+    print!(rt; "{name}{} differ {}", t.calls, t.differ)
 }
 
 // Prints the counts of a sequence.
-fn show(a: Asked, c: Counts) {
+fn show(rt: HostRuntime, a: Asked, c: Counts) -> io::Result<()> {
     let t = c.calls;
     let d = c.damaged;
     let s = c.selections;
-    show_setup(a);
-    show_kind(b": calls ", t);
-    show_kind(b", damaged ", d);
-    show_kind(b", selections ", s);
-    trial::text(b"\n");
+    show_setup(rt, a)?;
+    show_kind(rt, ": calls ", t)?;
+    show_kind(rt, ", damaged ", d)?;
+    show_kind(rt, ", selections ", s)?;
+    println!(rt; "")
 }
 
 // Runs a sequence from an empty table, and prints its line; the numbers given.
-fn run(a: Asked, calls: u64) -> u64 {
+fn run(rt: HostRuntime, a: Asked, calls: u64) -> io::Result<u64> {
     let mut table = room(a.table);
     let mut list = room(a.list);
     let c = turns(&mut table, &mut list, a, calls);
-    show(a, c);
-    c.given
+    show(rt, a, c)?;
+    Ok(c.given)
 }
 
 // Prints a number if it is in the set.
-fn show_given(given: u64, no: u64) {
-    if given & only(no) != 0 {
-        trial::field(b" ", no);
+fn show_given(rt: HostRuntime, given: u64, no: u64) -> io::Result<()> {
+    if given & only(no) == 0 {
+        return Ok(());
     }
+    print!(rt; " {no}")
 }
 
 // Prints the numbers that were given, 0 for a yes.
-fn show_all_given(given: u64) {
-    trial::text(b"numbers given:");
+fn show_all_given(rt: HostRuntime, given: u64) -> io::Result<()> {
+    print!(rt; "numbers given:")?;
     let mut i = 0;
     while i < 16 {
-        show_given(given, i);
+        show_given(rt, given, i)?;
         i += 1;
     }
-    trial::text(b"\n");
+    println!(rt; "")
 }
 
 // A wheel, channels and flows.
@@ -386,26 +383,26 @@ fn made(n: u64, s: u64, h: u64, p: u64, channels: u64, flows: u64) -> Asked {
 }
 
 // Wheels of up to 8 slots.
-fn small() -> u64 {
-    let a = run(made(1, 3, 1, 3, 1, 1), 600);
-    let b = run(made(5, 3, 1, 3, 4, 8), 1200);
-    let c = run(made(5, 2, 0, 1, 64, 64), 1200);
-    let d = run(made(8, 3, 1, 3, 1, 8), 1200);
-    let e = run(made(8, 3, 1, 3, 16, 16), 2000);
-    a | b | c | d | e | run(made(8, 4, 3, 1, 4, 1), 1200)
+fn small(rt: HostRuntime) -> io::Result<u64> {
+    let a = run(rt, made(1, 3, 1, 3, 1, 1), 600)?;
+    let b = run(rt, made(5, 3, 1, 3, 4, 8), 1200)?;
+    let c = run(rt, made(5, 2, 0, 1, 64, 64), 1200)?;
+    let d = run(rt, made(8, 3, 1, 3, 1, 8), 1200)?;
+    let e = run(rt, made(8, 3, 1, 3, 16, 16), 2000)?;
+    Ok(a | b | c | d | e | run(rt, made(8, 4, 3, 1, 4, 1), 1200)?)
 }
 
 // Larger ones.
-fn large() -> u64 {
-    let a = run(made(16, 3, 1, 3, 16, 8), 1200);
-    let b = run(made(16, 5, 2, 64, 64, 64), 1200);
-    let c = run(made(64, 3, 1, 3, 64, 64), 1000);
-    let d = run(made(64, 64, 63, 2, 16, 16), 1000);
-    a | b | c | d | run(made(64, 3, 1, 20, 4, 16), 1000)
+fn large(rt: HostRuntime) -> io::Result<u64> {
+    let a = run(rt, made(16, 3, 1, 3, 16, 8), 1200)?;
+    let b = run(rt, made(16, 5, 2, 64, 64, 64), 1200)?;
+    let c = run(rt, made(64, 3, 1, 3, 64, 64), 1000)?;
+    let d = run(rt, made(64, 64, 63, 2, 16, 16), 1000)?;
+    Ok(a | b | c | d | run(rt, made(64, 3, 1, 20, 4, 16), 1000)?)
 }
 
-fn main() {
-    let a = small();
-    let b = large();
-    show_all_given(a | b);
+fn main(rt: HostRuntime) -> io::Result<()> {
+    let a = small(rt)?;
+    let b = large(rt)?;
+    show_all_given(rt, a | b)
 }

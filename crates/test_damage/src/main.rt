@@ -6,6 +6,7 @@
 #![tactic(auto)]
 
 use model::Asked;
+use std::io;
 use trial::{Hit, Tally};
 
 // What is changed: a byte of the table, a byte of the list, or the low byte of a record's words or of
@@ -98,18 +99,24 @@ fn each(kind: Kind, table: &[u8], list: &[u8], a: Asked) -> Tally {
     sum
 }
 
-fn main() {
+fn main(rt: HostRuntime) -> io::Result<()> {
     let mut table = model::room();
     let mut list = model::room();
     let a = trial::four_flows(&mut table, &mut list);
-    trial::line(b"a byte of the table", each(Kind::Table, &table, &list, a));
-    trial::line(b"a byte of the list", each(Kind::List, &table, &list, a));
     trial::line(
-        b"the words of a record",
+        rt,
+        "a byte of the table",
+        each(Kind::Table, &table, &list, a),
+    )?;
+    trial::line(rt, "a byte of the list", each(Kind::List, &table, &list, a))?;
+    trial::line(
+        rt,
+        "the words of a record",
         each(Kind::Words, &table, &list, a),
-    );
+    )?;
     trial::line(
-        b"the deadline of a record",
+        rt,
+        "the deadline of a record",
         each(Kind::Deadline, &table, &list, a),
-    );
+    )
 }

@@ -6,6 +6,7 @@
 #![tactic(auto)]
 
 use model::{Asked, Call};
+use std::io;
 use trial::{Hit, Tally};
 
 // ---- other lengths
@@ -235,45 +236,54 @@ fn wide_selections(t: Tally) -> Tally {
 // ---- all of it
 
 // Prints what was tried of the least deadline on a wheel.
-fn deadline_line(table: &[u8], list: &[u8], n: u64, s: u64, h: u64, p: u64) {
-    trial::field(b"deadline of the path's length and one more, N ", n);
-    trial::field(b" S ", s);
-    trial::field(b" H ", h);
-    trial::field(b" P ", p);
-    trial::line(b"", least_deadlines(table, list, trial::asked(n, s, h, p)));
+fn deadline_line(
+    rt: HostRuntime,
+    table: &[u8],
+    list: &[u8],
+    n: u64,
+    s: u64,
+    h: u64,
+    p: u64,
+) -> io::Result<()> {
+    print!(rt; "deadline of the path's length and one more, N {n} S {s} H {h} P {p}")?;
+    trial::line(
+        rt,
+        "",
+        least_deadlines(table, list, trial::asked(n, s, h, p)),
+    )
 }
 
 // On a free table: its lengths, the least deadline on several wheels, and wide numbers.
-fn free(table: &[u8], list: &[u8]) {
-    trial::line(b"a table length", every_table(table, list));
-    deadline_line(table, list, 8, 3, 1, 3);
-    deadline_line(table, list, 1, 3, 1, 3);
-    deadline_line(table, list, 5, 2, 0, 1);
-    deadline_line(table, list, 64, 3, 1, 3);
-    deadline_line(table, list, 63, 64, 63, 64);
+fn free(rt: HostRuntime, table: &[u8], list: &[u8]) -> io::Result<()> {
+    trial::line(rt, "a table length", every_table(table, list))?;
+    deadline_line(rt, table, list, 8, 3, 1, 3)?;
+    deadline_line(rt, table, list, 1, 3, 1, 3)?;
+    deadline_line(rt, table, list, 5, 2, 0, 1)?;
+    deadline_line(rt, table, list, 64, 3, 1, 3)?;
+    deadline_line(rt, table, list, 63, 64, 63, 64)?;
     let wide = wide_demands(wide_wheels(table, list), table, list);
-    trial::line(b"a number above 65535", wide_selections(wide));
+    trial::line(rt, "a number above 65535", wide_selections(wide))
 }
 
 // Lengths of table and list of the four flows.
-fn lengths(table: &[u8], list: &[u8], a: Asked) {
-    trial::line(b"fewer channels", every_channels(table, list, a));
-    trial::line(b"a list length", every_list(table, list, a));
-    trial::line(b"a record past the list", every_past(table, list, a));
+fn lengths(rt: HostRuntime, table: &[u8], list: &[u8], a: Asked) -> io::Result<()> {
+    trial::line(rt, "fewer channels", every_channels(table, list, a))?;
+    trial::line(rt, "a list length", every_list(table, list, a))?;
+    trial::line(rt, "a record past the list", every_past(table, list, a))
 }
 
 // Rows of wheels of 8 and 64 slots.
-fn rows(table: &[u8]) {
-    trial::line(b"a row, N 8", every_row(table, 8));
-    trial::line(b"a row, N 64", every_row(table, 64));
-    trial::line(b"a bad row", no_rows(table));
+fn rows(rt: HostRuntime, table: &[u8]) -> io::Result<()> {
+    trial::line(rt, "a row, N 8", every_row(table, 8))?;
+    trial::line(rt, "a row, N 64", every_row(table, 64))?;
+    trial::line(rt, "a bad row", no_rows(table))
 }
 
-fn main() {
+fn main(rt: HostRuntime) -> io::Result<()> {
     let mut table = model::room();
     let mut list = model::room();
-    free(&table, &list);
+    free(rt, &table, &list)?;
     let a = trial::four_flows(&mut table, &mut list);
-    lengths(&table, &list, a);
-    rows(&table);
+    lengths(rt, &table, &list, a)?;
+    rows(rt, &table)
 }

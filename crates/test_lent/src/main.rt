@@ -11,9 +11,9 @@ ghost use Rattle.rules.specs.Paths.{chip_of};
 ghost use Rattle.rules.specs.Orders.{Agrees};
 ghost use Rattle.rules.specs.Promises.{Opens, Closes, Reports};
 
-use libc::STDOUT_FILENO;
 use model::{Asked, Call, Reply};
 use rules::{Cleared, Demand, Opened, Record, Refusal, Reported, Selected, State, Wheel, Words};
+use std::io;
 
 // The answer of an opening, and the list afterwards.
 #[derive(Clone, Copy)]
@@ -82,16 +82,6 @@ fn agree(table: &[u8], list: [Record; 16], w: Wheel) -> bool
     jellyspire::agree(table, &list, w)
 }
 
-// Prints text.
-fn text(s: &[u8]) {
-    io::write_all(STDOUT_FILENO, s);
-}
-
-// Prints a number.
-fn number(v: u64) {
-    io::print_decimal(STDOUT_FILENO, v);
-}
-
 // A number of slots or cells, in 64 bits.
 fn long(v: usize) -> u64 {
     v as u64
@@ -123,35 +113,24 @@ fn code(q: Refusal) -> u64 {
     }
 }
 
-fn refused(q: Refusal) {
-    text(b"refused ");
-    number(code(q));
-    text(b"\n");
+fn refused(rt: HostRuntime, q: Refusal) -> io::Result<()> {
+    println!(rt; "refused {}", code(q))
 }
 
-fn say_opened(a: Opened) {
+fn say_opened(rt: HostRuntime, a: Opened) -> io::Result<()> {
     match a {
         Opened::Granted(g) => {
-            text(b"granted ");
-            number(g.slots);
-            text(b": ");
-            number(long(g.count));
-            text(b" slots, ");
-            number(wide(g.words.0));
-            text(b" words\n");
+            let words = g.words.0;
+            println!(rt; "granted {}: {} slots, {words} words", g.slots, g.count)
         }
-        Opened::Refused(q) => refused(q),
+        Opened::Refused(q) => refused(rt, q),
     }
 }
 
-fn say_cleared(a: Cleared) {
+fn say_cleared(rt: HostRuntime, a: Cleared) -> io::Result<()> {
     match a {
-        Cleared::Cells(k) => {
-            text(b"cleared ");
-            number(long(k));
-            text(b" cells\n");
-        }
-        Cleared::Refused(q) => refused(q),
+        Cleared::Cells(k) => println!(rt; "cleared {k} cells"),
+        Cleared::Refused(q) => refused(rt, q),
     }
 }
 
@@ -189,33 +168,27 @@ fn path() -> [u16; 16] {
     p
 }
 
-fn say_reported(a: Reported) {
+fn say_reported(rt: HostRuntime, a: Reported) -> io::Result<()> {
     match a {
-        Reported::Counted(c) => {
-            text(b"free ");
-            number(long(c.free));
-            text(b", held ");
-            number(long(c.held));
-            text(b"\n");
-        }
-        Reported::Refused(q) => refused(q),
+        Reported::Counted(c) => println!(rt; "free {}, held {}", c.free, c.held),
+        Reported::Refused(q) => refused(rt, q),
     }
 }
 
 // Prints whether table and list agree.
-fn say_agreed(agreed: bool) {
+fn say_agreed(rt: HostRuntime, agreed: bool) -> io::Result<()> {
     if agreed {
-        text(b"agree, ");
+        print!(rt; "agree, ")
     } else {
-        text(b"disagree, ");
+        print!(rt; "disagree, ")
     }
 }
 
 // Prints whether table and list agree, and the report.
-fn say_report(table: &[u8], list: [Record; 16]) {
-    say_agreed(agree(table, list, wheel()));
+fn say_report(rt: HostRuntime, table: &[u8], list: [Record; 16]) -> io::Result<()> {
+    say_agreed(rt, agree(table, list, wheel()))?;
     let a = report(table, list, wheel());
-    say_reported(a);
+    say_reported(rt, a)
 }
 
 // ---- the model beside it
@@ -335,11 +308,11 @@ fn selected_reply(a: Selected) -> Reply {
 }
 
 // Prints whether something is the model's.
-fn say_same(same: bool) {
+fn say_same(rt: HostRuntime, same: bool) -> io::Result<()> {
     if same {
-        text(b"as modelled\n");
+        println!(rt; "as modelled")
     } else {
-        text(b"not as modelled\n");
+        println!(rt; "not as modelled")
     }
 }
 
@@ -361,14 +334,18 @@ fn as_modelled(
 }
 
 // Opens a flow with the demand, and prints.
-fn opens(table: &mut [u8], list: [Record; 16], flow: usize, demand: Demand) -> [Record; 16] {
-    text(b"open ");
-    number(long(flow));
-    text(b": ");
+fn opens(
+    rt: HostRuntime,
+    table: &mut [u8],
+    list: [Record; 16],
+    flow: usize,
+    demand: Demand,
+) -> io::Result<[Record; 16]> {
+    print!(rt; "open {flow}: ")?;
     let before = copied(table);
     let r = open(table, list, wheel(), flow, path(), 2, demand);
     let a = r.answer;
-    say_opened(a);
+    say_opened(rt, a)?;
     let after = r.list;
     let asked = asked(flow, demand);
     let reply = opened_reply(a);
@@ -381,20 +358,23 @@ fn opens(table: &mut [u8], list: [Record; 16], flow: usize, demand: Demand) -> [
         table,
         bytes_of(after),
     );
-    say_same(same);
-    say_report(table, after);
-    after
+    say_same(rt, same)?;
+    say_report(rt, table, after)?;
+    Ok(after)
 }
 
 // Closes a flow, and prints.
-fn closes(table: &mut [u8], list: [Record; 16], flow: usize) -> [Record; 16] {
-    text(b"close ");
-    number(long(flow));
-    text(b": ");
+fn closes(
+    rt: HostRuntime,
+    table: &mut [u8],
+    list: [Record; 16],
+    flow: usize,
+) -> io::Result<[Record; 16]> {
+    print!(rt; "close {flow}: ")?;
     let before = copied(table);
     let r = close(table, list, wheel(), flow);
     let a = r.answer;
-    say_cleared(a);
+    say_cleared(rt, a)?;
     let after = r.list;
     let asked = asked(flow, demand(0, 0));
     let reply = cleared_reply(a);
@@ -407,9 +387,9 @@ fn closes(table: &mut [u8], list: [Record; 16], flow: usize) -> [Record; 16] {
         table,
         bytes_of(after),
     );
-    say_same(same);
-    say_report(table, after);
-    after
+    say_same(rt, same)?;
+    say_report(rt, table, after)?;
+    Ok(after)
 }
 
 // What flows ask for.
@@ -421,33 +401,35 @@ fn demand(words: u16, deadline: u16) -> Demand {
 }
 
 // A grant; the same flow again; and the last flow of the list.
-fn opening(table: &mut [u8]) -> [Record; 16] {
-    let a = opens(table, empty(), 3, demand(4, 12));
-    let b = opens(table, a, 3, demand(4, 12));
-    opens(table, b, 16, demand(9, 12))
+fn opening(rt: HostRuntime, table: &mut [u8]) -> io::Result<[Record; 16]> {
+    let a = opens(rt, table, empty(), 3, demand(4, 12))?;
+    let b = opens(rt, table, a, 3, demand(4, 12))?;
+    opens(rt, table, b, 16, demand(9, 12))
 }
 
 // A flow past the end of the list; and more words than there is room for.
-fn refusing(table: &mut [u8], list: [Record; 16]) -> [Record; 16] {
-    let a = opens(table, list, 17, demand(1, 12));
-    opens(table, a, 1, demand(60, 12))
+fn refusing(rt: HostRuntime, table: &mut [u8], list: [Record; 16]) -> io::Result<[Record; 16]> {
+    let a = opens(rt, table, list, 17, demand(1, 12))?;
+    opens(rt, table, a, 1, demand(60, 12))
 }
 
 // A flow that is not open; the two that are; and one of them again.
-fn closing(table: &mut [u8], list: [Record; 16]) {
-    let a = closes(table, list, 2);
-    let b = closes(table, a, 3);
-    let c = closes(table, b, 3);
-    closes(table, c, 16);
+fn closing(rt: HostRuntime, table: &mut [u8], list: [Record; 16]) -> io::Result<()> {
+    let a = closes(rt, table, list, 2)?;
+    let b = closes(rt, table, a, 3)?;
+    let c = closes(rt, table, b, 3)?;
+    closes(rt, table, c, 16)?;
+    Ok(())
 }
 
 // A deadline that the path alone uses up; a grant; a list that does not know of it; and the one that
 // does.
-fn disagreeing(table: &mut [u8]) {
-    let a = opens(table, empty(), 1, demand(4, 2));
-    let b = opens(table, a, 1, demand(4, 12));
-    closes(table, empty(), 1);
-    closes(table, b, 1);
+fn disagreeing(rt: HostRuntime, table: &mut [u8]) -> io::Result<()> {
+    let a = opens(rt, table, empty(), 1, demand(4, 2))?;
+    let b = opens(rt, table, a, 1, demand(4, 12))?;
+    closes(rt, table, empty(), 1)?;
+    closes(rt, table, b, 1)?;
+    Ok(())
 }
 
 // Whether a row of so many cells holds those of a channel.
@@ -460,45 +442,55 @@ fn row_right(row: &[u8], table: &[u8], channel: usize, cells: usize) -> bool {
 }
 
 // The rows of both channels, and of one that is not there.
-fn rows(table: &[u8]) {
-    text(b"row 0: ");
-    say_same(row_right(jellyspire::row(table, wheel(), 0), table, 0, 8));
-    text(b"row 1: ");
-    say_same(row_right(jellyspire::row(table, wheel(), 1), table, 1, 8));
-    text(b"row 2: ");
-    say_same(row_right(jellyspire::row(table, wheel(), 2), table, 2, 0));
+fn rows(rt: HostRuntime, table: &[u8]) -> io::Result<()> {
+    print!(rt; "row 0: ")?;
+    say_same(
+        rt,
+        row_right(jellyspire::row(table, wheel(), 0), table, 0, 8),
+    )?;
+    print!(rt; "row 1: ")?;
+    say_same(
+        rt,
+        row_right(jellyspire::row(table, wheel(), 1), table, 1, 8),
+    )?;
+    print!(rt; "row 2: ")?;
+    say_same(
+        rt,
+        row_right(jellyspire::row(table, wheel(), 2), table, 2, 0),
+    )
 }
 
 // Bare selection among the slots, and the same of the model.
-fn selects(free: u64, words: u16, limit: u16) {
-    text(b"select: ");
+fn selects(rt: HostRuntime, free: u64, words: u16, limit: u16) -> io::Result<()> {
     let a = jellyspire::select(wheel(), free, Words(words), limit);
     let r = selected_reply(a);
-    number(r.one);
-    text(b", ");
+    print!(rt; "select: {}, ", r.one)?;
     let asked = asked(1, demand(words, 0));
-    say_same(model::same_reply(r, model::select(asked, free, wide(limit))));
+    say_same(
+        rt,
+        model::same_reply(r, model::select(asked, free, wide(limit))),
+    )
 }
 
 // P6 to P8 of document 01, a word too many, and a slot that is not there.
-fn selecting() {
-    selects(0b1110101, 8, 8);
-    selects(0b11001, 3, 8);
-    selects(0b10011001, 5, 8);
-    selects(255, 22, 8);
-    selects(256, 1, 8);
+fn selecting(rt: HostRuntime) -> io::Result<()> {
+    selects(rt, 0b1110101, 8, 8)?;
+    selects(rt, 0b11001, 3, 8)?;
+    selects(rt, 0b10011001, 5, 8)?;
+    selects(rt, 255, 22, 8)?;
+    selects(rt, 256, 1, 8)
 }
 
-fn run(table: &mut [u8]) {
-    let a = opening(table);
-    let b = refusing(table, a);
-    rows(table);
-    closing(table, b);
-    disagreeing(table);
-    selecting();
+fn run(rt: HostRuntime, table: &mut [u8]) -> io::Result<()> {
+    let a = opening(rt, table)?;
+    let b = refusing(rt, table, a)?;
+    rows(rt, table)?;
+    closing(rt, table, b)?;
+    disagreeing(rt, table)?;
+    selecting(rt)
 }
 
-fn main() {
+fn main(rt: HostRuntime) -> io::Result<()> {
     let mut table: [u8; 128] = [0; 128];
-    run(&mut table);
+    run(rt, &mut table)
 }

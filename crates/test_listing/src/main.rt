@@ -2,29 +2,28 @@
 // cases and what is expected of them were made outside, by no program of ours.
 #![tactic(auto)]
 
-use libc::STDOUT_FILENO;
+use std::fs;
+use std::io;
 
 // One case: its name, and its listing.
-fn one(k: usize) {
-    let mut name = io::buffer();
-    let n = os::arg(k, &mut name);
-    io::write_all(STDOUT_FILENO, b"== ");
-    io::write_all(STDOUT_FILENO, &name[..n]);
-    io::write_all(STDOUT_FILENO, b"\n");
-    let fd = os::open_read(&name[..n]);
-    if fd < 0 {
-        os::fail(&name[..n]);
-        return;
-    }
-    console::run(fd);
-    libc::close(fd);
+fn one(rt: HostRuntime, name: &str) -> io::Result<()> {
+    println!(rt; "== {name}")?;
+    let mut file = fs::open(&rt, name)?;
+    console::run(&mut file, &mut rt.stdout())
 }
 
-fn main() {
-    let count = os::arg_count();
-    let mut k: usize = 1;
-    while k < count {
-        one(k);
-        k += 1;
+// Room for the name of a case.
+fn name_room() -> [u8; 4096] {
+    [0; 4096]
+}
+
+fn main(rt: HostRuntime) -> io::Result<()> {
+    let mut room = name_room();
+    for k in 1..usize::MAX {
+        match input::argument(&rt, k, &mut room) {
+            Some(name) => one(rt, name)?,
+            None => return Ok(()),
+        }
     }
+    Ok(())
 }

@@ -3,8 +3,8 @@
 // 01 shows two mistakes of trainees. Every line counts what was tried and what differed.
 #![tactic(auto)]
 
-use libc::STDOUT_FILENO;
 use rules::{Wheel, Words};
+use std::io;
 
 // How many cases were tried, and in how many of them the two sides differed.
 #[derive(Clone, Copy)]
@@ -36,22 +36,9 @@ fn noted(t: Tally, same: bool) -> Tally {
     }
 }
 
-// Prints text.
-fn text(s: &[u8]) {
-    io::write_all(STDOUT_FILENO, s);
-}
-
-// Prints a number.
-fn number(v: u64) {
-    io::print_decimal(STDOUT_FILENO, v);
-}
-
 // Ends a line with what a tally has counted.
-fn result(t: Tally, cases: &[u8]) {
-    number(t.tried);
-    text(cases);
-    number(t.differ);
-    text(b" differ\n");
+fn result(rt: HostRuntime, t: Tally, cases: &str) -> io::Result<()> {
+    println!(rt; "{} {cases}, {} differ", t.tried, t.differ)
 }
 
 // A number of words or of slots, in 64 bits.
@@ -164,21 +151,15 @@ fn all_sets(t: Tally, w: Wheel, against: Against) -> Tally {
 }
 
 // All sets of the wheels with 1 to 10 slots and these values.
-fn all_wheels(s: u16, h: u16, p: usize, against: Against) {
-    text(b"S ");
-    number(wide(s));
-    text(b" H ");
-    number(wide(h));
-    text(b" P ");
-    number(long(p));
-    text(b": ");
+fn all_wheels(rt: HostRuntime, s: u16, h: u16, p: usize, against: Against) -> io::Result<()> {
+    print!(rt; "S {s} H {h} P {p}: ")?;
     let mut sum = none();
     let mut n = 1;
     while n <= 10 {
         sum = all_sets(sum, wheel(n, s, h, p), against);
         n += 1;
     }
-    result(sum, b" sets, ");
+    result(rt, sum, "sets")
 }
 
 // A wheel at the edge of its ranges, with three sets.
@@ -198,7 +179,7 @@ fn outside(t: Tally, n: usize, s: u16, h: u16, p: usize) -> Tally {
 }
 
 // Wheels with one value at an end of its range.
-fn edges() {
+fn edges(rt: HostRuntime) -> io::Result<()> {
     let a = inside(none(), 1, 3, 1, 3);
     let b = inside(a, 64, 3, 1, 3);
     let c = inside(b, 8, 2, 1, 3);
@@ -209,8 +190,8 @@ fn edges() {
     let h = inside(g, 8, 3, 1, 64);
     let i = inside(h, 64, 64, 63, 1);
     let j = inside(i, 64, 64, 0, 64);
-    text(b"at the edges of the ranges: ");
-    result(j, b" wheels, ");
+    print!(rt; "at the edges of the ranges: ")?;
+    result(rt, j, "wheels")
 }
 
 // Wheels with a bad number of slots.
@@ -246,10 +227,10 @@ fn bad_period(t: Tally) -> Tally {
 }
 
 // Wheels with one value outside its range, and one with all four.
-fn bad_wheels() {
+fn bad_wheels(rt: HostRuntime) -> io::Result<()> {
     let t = bad_period(bad_header(bad_words(bad_slots(none()))));
-    text(b"outside the ranges: ");
-    result(outside(t, 0, 1, 1, 0), b" wheels, ");
+    print!(rt; "outside the ranges: ")?;
+    result(rt, outside(t, 0, 1, 1, 0), "wheels")
 }
 
 // Every second slot, and all slots, on one wheel.
@@ -271,15 +252,15 @@ fn one_value(t: Tally, v: u16) -> Tally {
 }
 
 // Each value from 0 to 70 in each place of the wheel.
-fn values() {
+fn values(rt: HostRuntime) -> io::Result<()> {
     let mut sum = none();
     let mut v = 0;
     while v <= 70 {
         sum = one_value(sum, v);
         v += 1;
     }
-    text(b"values from 0 to 70: ");
-    result(sum, b" wheels, ");
+    print!(rt; "values from 0 to 70: ")?;
+    result(rt, sum, "wheels")
 }
 
 // The set x of slots below N with slot N besides, with slot 63, and its complement, to which every
@@ -307,29 +288,26 @@ fn sets_beyond(t: Tally, w: Wheel) -> Tally {
 }
 
 // Sets with slots at N and beyond: the measures pass these over.
-fn all_beyond() {
+fn all_beyond(rt: HostRuntime) -> io::Result<()> {
     let mut sum = none();
     let mut n = 1;
     while n <= 10 {
         sum = sets_beyond(sum, wheel(n, 3, 1, 3));
         n += 1;
     }
-    text(b"slots at N and beyond: ");
-    result(sum, b" sets, ");
+    print!(rt; "slots at N and beyond: ")?;
+    result(rt, sum, "sets")
 }
 
 // The two mistakes on document 01's examples, {7,0,1} and {3,4}, and on all sets.
-fn mistakes() {
+fn mistakes(rt: HostRuntime) -> io::Result<()> {
     let w = wheel(8, 3, 1, 3);
-    text(b"{7,0,1} delivers ");
-    number(words(w, 131));
-    text(b"; with a header at slot 0 ");
-    number(apart::words_cut_at_wrap(8, 3, 1, 3, 131));
-    text(b"\n{3,4} has largest gap ");
-    number(long(measure::largest_gap(w, 24)));
-    text(b"; without the gap over the wrap ");
-    number(apart::largest_gap_before_wrap(8, 24));
-    text(b"\n");
+    let right = words(w, 131);
+    let wrong = apart::words_cut_at_wrap(8, 3, 1, 3, 131);
+    println!(rt; "{{7,0,1}} delivers {right}; with a header at slot 0 {wrong}")?;
+    let gap = measure::largest_gap(w, 24);
+    let short = apart::largest_gap_before_wrap(8, 24);
+    println!(rt; "{{3,4}} has largest gap {gap}; without the gap over the wrap {short}")
 }
 
 // P2 to P4 of document 01, the words. They are proved of the rules; here the built library answers.
@@ -351,22 +329,22 @@ fn gap_examples(t: Tally) -> Tally {
     noted(b, measure::largest_gap(w, 129) == 7)
 }
 
-fn main() {
-    all_wheels(3, 1, 3, Against::Rules);
-    all_wheels(2, 0, 1, Against::Rules);
-    all_wheels(4, 3, 1, Against::Rules);
-    all_wheels(64, 5, 64, Against::Rules);
-    all_wheels(5, 2, 2, Against::Rules);
-    all_wheels(3, 1, 20, Against::Rules);
-    edges();
-    bad_wheels();
-    values();
-    all_beyond();
-    text(b"P2 to P5: ");
-    result(gap_examples(words_examples()), b" examples, ");
-    mistakes();
-    text(b"a header at slot 0, ");
-    all_wheels(3, 1, 3, Against::HeaderAtWrap);
-    text(b"no gap over the wrap, ");
-    all_wheels(3, 1, 3, Against::NoGapOverWrap);
+fn main(rt: HostRuntime) -> io::Result<()> {
+    all_wheels(rt, 3, 1, 3, Against::Rules)?;
+    all_wheels(rt, 2, 0, 1, Against::Rules)?;
+    all_wheels(rt, 4, 3, 1, Against::Rules)?;
+    all_wheels(rt, 64, 5, 64, Against::Rules)?;
+    all_wheels(rt, 5, 2, 2, Against::Rules)?;
+    all_wheels(rt, 3, 1, 20, Against::Rules)?;
+    edges(rt)?;
+    bad_wheels(rt)?;
+    values(rt)?;
+    all_beyond(rt)?;
+    print!(rt; "P2 to P5: ")?;
+    result(rt, gap_examples(words_examples()), "examples")?;
+    mistakes(rt)?;
+    print!(rt; "a header at slot 0, ")?;
+    all_wheels(rt, 3, 1, 3, Against::HeaderAtWrap)?;
+    print!(rt; "no gap over the wrap, ")?;
+    all_wheels(rt, 3, 1, 3, Against::NoGapOverWrap)
 }

@@ -6,6 +6,7 @@
 #![tactic(auto)]
 
 use model::{Asked, Call};
+use std::io;
 use trial::{Hit, Tally};
 
 // ---- the orders
@@ -297,19 +298,36 @@ fn every_way(call: Call, table: &[u8], list: &[u8], a: Asked, no: u64) -> Tally 
 }
 
 // The line of a number of an order.
-fn number_line(call: Call, name: &[u8], table: &[u8], list: &[u8], a: Asked, no: u64) {
-    if in_order(call, no) {
-        line(name, no, every_way(call, table, list, a, no));
+fn number_line(
+    rt: HostRuntime,
+    call: Call,
+    name: &str,
+    table: &[u8],
+    list: &[u8],
+    a: Asked,
+    no: u64,
+) -> io::Result<()> {
+    if !in_order(call, no) {
+        return Ok(());
     }
+    line(rt, name, no, every_way(call, table, list, a, no))
 }
 
 // Every number of the order of a call, a line each.
-fn every_number(call: Call, name: &[u8], table: &[u8], list: &[u8], a: Asked) {
+fn every_number(
+    rt: HostRuntime,
+    call: Call,
+    name: &str,
+    table: &[u8],
+    list: &[u8],
+    a: Asked,
+) -> io::Result<()> {
     let mut no = 1;
     while no < 15 {
-        number_line(call, name, table, list, a, no);
+        number_line(rt, call, name, table, list, a, no)?;
         no += 1;
     }
+    Ok(())
 }
 
 // No condition: an opening at ease, and one that takes each free slot of its path and the whole gap
@@ -376,31 +394,38 @@ fn agrees(table: &[u8], list: &[u8], a: Asked) -> Tally {
 // ---- what is printed
 
 // Prints the calls of a kind that must give a number; 0 is a yes.
-fn line(name: &[u8], no: u64, t: Tally) {
-    trial::field(name, no);
-    trial::line(b"", t);
+fn line(rt: HostRuntime, name: &str, no: u64, t: Tally) -> io::Result<()> {
+    print!(rt; "{name}{no}")?;
+    trial::line(rt, "", t)
 }
 
 // Opening and closing.
-fn changing(table: &[u8], list: &[u8], a: Asked) {
-    line(b"open ", 0, grants(table, list, a));
-    every_number(Call::Open, b"open ", table, list, a);
-    line(b"close ", 0, closings(table, list, a));
-    every_number(Call::Close, b"close ", table, list, trial::with_flow(a, 1));
+fn changing(rt: HostRuntime, table: &[u8], list: &[u8], a: Asked) -> io::Result<()> {
+    line(rt, "open ", 0, grants(table, list, a))?;
+    every_number(rt, Call::Open, "open ", table, list, a)?;
+    line(rt, "close ", 0, closings(table, list, a))?;
+    every_number(
+        rt,
+        Call::Close,
+        "close ",
+        table,
+        list,
+        trial::with_flow(a, 1),
+    )
 }
 
 // The report and agreement.
-fn reading(table: &[u8], list: &[u8], a: Asked) {
-    line(b"report ", 0, reports(table, list, a));
-    every_number(Call::Report, b"report ", table, list, a);
-    line(b"agree ", 0, agrees(table, list, a));
-    every_number(Call::Agree, b"agree ", table, list, a);
+fn reading(rt: HostRuntime, table: &[u8], list: &[u8], a: Asked) -> io::Result<()> {
+    line(rt, "report ", 0, reports(table, list, a))?;
+    every_number(rt, Call::Report, "report ", table, list, a)?;
+    line(rt, "agree ", 0, agrees(table, list, a))?;
+    every_number(rt, Call::Agree, "agree ", table, list, a)
 }
 
-fn main() {
+fn main(rt: HostRuntime) -> io::Result<()> {
     let mut table = model::room();
     let mut list = model::room();
     let a = trial::four_flows(&mut table, &mut list);
-    changing(&table, &list, a);
-    reading(&table, &list, a);
+    changing(rt, &table, &list, a)?;
+    reading(rt, &table, &list, a)
 }

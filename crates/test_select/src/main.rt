@@ -5,8 +5,8 @@
 #![tactic(auto)]
 
 use apart::Found;
-use libc::STDOUT_FILENO;
 use rules::{Selected, Wheel, Words};
+use std::io;
 
 // How many selections were made, how many of them differ from the search apart, and how many were
 // granted, refused by 13 and refused by 14.
@@ -68,16 +68,6 @@ fn noted(t: Tally, a: Found, b: Found) -> Tally {
     }
 }
 
-// Prints text.
-fn text(s: &[u8]) {
-    io::write_all(STDOUT_FILENO, s);
-}
-
-// Prints a number.
-fn number(v: u64) {
-    io::print_decimal(STDOUT_FILENO, v);
-}
-
 // A number of words or of slots, in 64 bits.
 fn wide(v: u16) -> u64 {
     v as u64
@@ -132,21 +122,14 @@ fn select(w: Wheel, free: u64, words: u16, limit: u16) -> Found {
 }
 
 // Prints a line with an answer.
-fn show(name: &[u8], f: Found) {
-    text(name);
+fn show(rt: HostRuntime, name: &str, f: Found) -> io::Result<()> {
     if f.no != 0 {
-        text(b": refused ");
-        number(f.no);
-        text(b"\n");
-        return;
+        return println!(rt; "{name}: refused {}", f.no);
     }
-    text(b": set ");
-    number(f.slots);
-    text(b" slots ");
-    number(f.count);
-    text(b" words ");
-    number(f.words);
-    text(b"\n");
+    println!(rt;
+        "{name}: set {} slots {} words {}",
+        f.slots, f.count, f.words
+    )
 }
 
 // Bare selection on the default wheel.
@@ -155,77 +138,80 @@ fn usual(free: u64, words: u16, limit: u16) -> Found {
 }
 
 // P6 to P9 of document 01; a path of one channel takes one slot, so L is D less 1.
-fn examples() {
-    show(b"P6", usual(117, 8, 8));
-    show(b"P7", usual(25, 3, 8));
-    show(b"P7 with D 4", usual(25, 3, 3));
-    show(b"P8", usual(153, 5, 8));
-    show(b"P9 with D 5", usual(34, 4, 4));
-    show(b"P9 with D 4", usual(34, 4, 3));
+fn examples(rt: HostRuntime) -> io::Result<()> {
+    show(rt, "P6", usual(117, 8, 8))?;
+    show(rt, "P7", usual(25, 3, 8))?;
+    show(rt, "P7 with D 4", usual(25, 3, 3))?;
+    show(rt, "P8", usual(153, 5, 8))?;
+    show(rt, "P9 with D 5", usual(34, 4, 4))?;
+    show(rt, "P9 with D 4", usual(34, 4, 3))
 }
 
 // P10, and what document 01 wants run.
-fn examples_run() {
-    show(b"P10", usual(255, 21, 8));
-    show(b"P10 with W 22", usual(255, 22, 8));
-    show(b"L 0", usual(255, 3, 0));
-    show(b"L 1 and all free", usual(255, 3, 1));
-    show(b"L 1 and all free but one", usual(127, 3, 1));
-    show(b"no slot free", usual(0, 1, 8));
-    show(b"W 0 with L 0", usual(255, 0, 0));
-    show(b"slot 8 of 8 free", usual(256, 1, 8));
+fn examples_run(rt: HostRuntime) -> io::Result<()> {
+    show(rt, "P10", usual(255, 21, 8))?;
+    show(rt, "P10 with W 22", usual(255, 22, 8))?;
+    show(rt, "L 0", usual(255, 3, 0))?;
+    show(rt, "L 1 and all free", usual(255, 3, 1))?;
+    show(rt, "L 1 and all free but one", usual(127, 3, 1))?;
+    show(rt, "no slot free", usual(0, 1, 8))?;
+    show(rt, "W 0 with L 0", usual(255, 0, 0))?;
+    show(rt, "slot 8 of 8 free", usual(256, 1, 8))
 }
 
 // 1 beside each other condition.
-fn wheel_first() {
-    show(b"N 0, and slot 8", select(wheel(0, 3, 1, 3), 256, 1, 8));
-    show(b"S 1, and W 0", select(wheel(8, 1, 0, 3), 255, 0, 8));
-    show(b"H 3, and L 0", select(wheel(8, 3, 3, 3), 255, 1, 0));
-    show(b"P 0, and W 22", select(wheel(8, 3, 1, 0), 255, 22, 8));
-    show(b"N 65, and gap 8", select(wheel(65, 3, 1, 3), 1, 1, 7));
+fn wheel_first(rt: HostRuntime) -> io::Result<()> {
+    show(rt, "N 0, and slot 8", select(wheel(0, 3, 1, 3), 256, 1, 8))?;
+    show(rt, "S 1, and W 0", select(wheel(8, 1, 0, 3), 255, 0, 8))?;
+    show(rt, "H 3, and L 0", select(wheel(8, 3, 3, 3), 255, 1, 0))?;
+    show(rt, "P 0, and W 22", select(wheel(8, 3, 1, 0), 255, 22, 8))?;
+    show(rt, "N 65, and gap 8", select(wheel(65, 3, 1, 3), 1, 1, 7))?;
     show(
-        b"S 65, and slot 63",
+        rt,
+        "S 65, and slot 63",
         select(wheel(8, 65, 1, 3), 9223372036854775808, 1, 8),
-    );
-    show(b"P 65, and W 0", select(wheel(8, 3, 1, 65), 255, 0, 8));
+    )?;
+    show(rt, "P 65, and W 0", select(wheel(8, 3, 1, 65), 255, 0, 8))
 }
 
 // 15 beside each later condition.
-fn slot_second() {
-    show(b"slot 8, and W 0", usual(256, 0, 8));
-    show(b"slot 63, and L 0", usual(9223372036854775808, 1, 0));
-    show(b"slot 8, and W 65535", usual(257, 65535, 8));
-    show(b"slot 8, and gap 8", usual(257, 1, 7));
+fn slot_second(rt: HostRuntime) -> io::Result<()> {
+    show(rt, "slot 8, and W 0", usual(256, 0, 8))?;
+    show(rt, "slot 63, and L 0", usual(9223372036854775808, 1, 0))?;
+    show(rt, "slot 8, and W 65535", usual(257, 65535, 8))?;
+    show(rt, "slot 8, and gap 8", usual(257, 1, 7))
 }
 
 // 11 and 12 beside each later condition, and 13 before 14.
-fn demand_last() {
-    show(b"W 0, and L 0", usual(255, 0, 0));
-    show(b"W 0, and no slot free", usual(0, 0, 8));
-    show(b"W 0, and gap 8", usual(1, 0, 7));
-    show(b"L 0, and no slot free", usual(0, 1, 0));
-    show(b"L 0, and W 22", usual(255, 22, 0));
-    show(b"W 3, and gap 8", usual(1, 3, 7));
-    show(b"W 2, and gap 8", usual(1, 2, 7));
+fn demand_last(rt: HostRuntime) -> io::Result<()> {
+    show(rt, "W 0, and L 0", usual(255, 0, 0))?;
+    show(rt, "W 0, and no slot free", usual(0, 0, 8))?;
+    show(rt, "W 0, and gap 8", usual(1, 0, 7))?;
+    show(rt, "L 0, and no slot free", usual(0, 1, 0))?;
+    show(rt, "L 0, and W 22", usual(255, 22, 0))?;
+    show(rt, "W 3, and gap 8", usual(1, 3, 7))?;
+    show(rt, "W 2, and gap 8", usual(1, 2, 7))
 }
 
 // The largest value in each place in turn.
-fn largest_values() {
+fn largest_values(rt: HostRuntime) -> io::Result<()> {
     let full = 18446744073709551615;
-    show(b"N 65535", select(wheel(65535, 3, 1, 3), 255, 1, 8));
-    show(b"S 65535", select(wheel(8, 65535, 1, 3), 255, 1, 8));
-    show(b"H 65535", select(wheel(8, 3, 65535, 3), 255, 1, 8));
-    show(b"P 65535", select(wheel(8, 3, 1, 65535), 255, 1, 8));
-    show(b"W 65535", usual(255, 65535, 8));
-    show(b"L 65535", usual(255, 21, 65535));
+    show(rt, "N 65535", select(wheel(65535, 3, 1, 3), 255, 1, 8))?;
+    show(rt, "S 65535", select(wheel(8, 65535, 1, 3), 255, 1, 8))?;
+    show(rt, "H 65535", select(wheel(8, 3, 65535, 3), 255, 1, 8))?;
+    show(rt, "P 65535", select(wheel(8, 3, 1, 65535), 255, 1, 8))?;
+    show(rt, "W 65535", usual(255, 65535, 8))?;
+    show(rt, "L 65535", usual(255, 21, 65535))?;
     show(
-        b"N 64, W 65535",
+        rt,
+        "N 64, W 65535",
         select(wheel(64, 64, 0, 64), full, 65535, 65535),
-    );
+    )?;
     show(
-        b"N 64, W 4096",
+        rt,
+        "N 64, W 4096",
         select(wheel(64, 64, 0, 64), full, 4096, 65535),
-    );
+    )
 }
 
 // The exact search apart, which fills tables from each start.
@@ -385,37 +371,28 @@ fn all_wheels(s: u16, h: u16, p: usize) -> Tally {
 }
 
 // Prints what was counted on the wheels with these values.
-fn sweep(s: u16, h: u16, p: usize) {
+fn sweep(rt: HostRuntime, s: u16, h: u16, p: usize) -> io::Result<()> {
     let t = all_wheels(s, h, p);
-    text(b"S ");
-    number(wide(s));
-    text(b" H ");
-    number(wide(h));
-    text(b" P ");
-    number(long(p));
-    text(b": ");
-    number(t.tried);
-    text(b" selections, ");
-    number(t.differ);
-    text(b" differ; ");
-    number(t.granted);
-    text(b" granted, ");
-    number(t.too_much);
-    text(b" refused 13, ");
-    number(t.too_far);
-    text(b" refused 14\n");
+    print!(rt;
+        "S {s} H {h} P {p}: {} selections, {} differ; ",
+        t.tried, t.differ
+    )?;
+    println!(rt;
+        "{} granted, {} refused 13, {} refused 14",
+        t.granted, t.too_much, t.too_far
+    )
 }
 
-fn main() {
-    examples();
-    examples_run();
-    wheel_first();
-    slot_second();
-    demand_last();
-    largest_values();
-    sweep(3, 1, 3);
-    sweep(3, 0, 3);
-    sweep(4, 2, 1);
-    sweep(3, 2, 20);
-    sweep(2, 1, 2);
+fn main(rt: HostRuntime) -> io::Result<()> {
+    examples(rt)?;
+    examples_run(rt)?;
+    wheel_first(rt)?;
+    slot_second(rt)?;
+    demand_last(rt)?;
+    largest_values(rt)?;
+    sweep(rt, 3, 1, 3)?;
+    sweep(rt, 3, 0, 3)?;
+    sweep(rt, 4, 2, 1)?;
+    sweep(rt, 3, 2, 20)?;
+    sweep(rt, 2, 1, 2)
 }

@@ -4,8 +4,8 @@
 #![tactic(auto)]
 
 use apart::Found;
-use libc::STDOUT_FILENO;
 use rules::{Selected, Wheel, Words};
+use std::{fs, io};
 
 // What was read of a line: the numbers of its fields so far, which field is being read, how many
 // bytes of it were, and whether all of them were in place. Field 7 is the arrow.
@@ -283,47 +283,31 @@ fn vectors(text: &[u8]) -> Tally {
     end(state)
 }
 
-// Prints text.
-fn text(s: &[u8]) {
-    io::write_all(STDOUT_FILENO, s);
-}
-
-// Prints a number.
-fn number(v: u64) {
-    io::print_decimal(STDOUT_FILENO, v);
-}
-
 // Prints what was counted.
-fn show(t: Tally) {
-    number(t.vectors);
-    text(b" vectors, ");
-    number(t.differ);
-    text(b" differ; ");
-    number(t.large);
-    text(b" at N 64 with 60 or more free slots and 20 to 40 granted\n");
+fn show(rt: HostRuntime, t: Tally) -> io::Result<()> {
+    print!(rt; "{} vectors, {} differ; ", t.vectors, t.differ)?;
+    println!(rt;
+        "{} at N 64 with 60 or more free slots and 20 to 40 granted",
+        t.large
+    )
 }
 
 // The vectors of one file, of less than 65,536 bytes.
-fn file(name: &[u8]) {
-    let fd = os::open_read(name);
-    if fd < 0 {
-        os::fail(name);
-        return;
-    }
-    let mut buf = io::large_buffer();
-    let n = io::read_full(fd, &mut buf);
-    libc::close(fd);
-    text(name);
-    text(b": ");
+fn file(rt: HostRuntime, name: &str) -> io::Result<()> {
+    let mut from = fs::open(&rt, name)?;
+    let mut room = [0u8; 65536];
+    let n = input::read_full(&mut from, &mut room)?;
+    print!(rt; "{name}: ")?;
     if 65536 <= n {
-        text(b"too long\n");
-        return;
+        return println!(rt; "too long");
     }
-    show(vectors(&buf[..n]));
+    show(rt, vectors(&room[..n]))
 }
 
-fn main() {
-    let mut name = io::buffer();
-    let n = os::arg(1, &mut name);
-    file(&name[..n]);
+fn main(rt: HostRuntime) -> io::Result<()> {
+    let mut room = [0u8; 4096];
+    match input::argument(&rt, 1, &mut room) {
+        Some(name) => file(rt, name),
+        None => Err(io::Error::from(io::ErrorKind::NotFound)),
+    }
 }

@@ -5,8 +5,8 @@
 
 ghost use Rattle.std.specs.Prelude.{◌≡◌, length};
 
-use libc::STDOUT_FILENO;
 use model::{Asked, Call, Reply};
+use std::io;
 
 // A byte of the table or of the list with another value: `at` counts through the table's room and
 // then the list's; past both, nothing is changed.
@@ -302,23 +302,11 @@ fn last_two(table: &mut [u8], list: &mut [u8]) {
 
 // ---- what is printed
 
-// Prints text.
-pub fn text(s: &[u8]) {
-    io::write_all(STDOUT_FILENO, s);
-}
-
-// Prints a name and a number.
-pub fn field(name: &[u8], v: u64) {
-    text(name);
-    io::print_decimal(STDOUT_FILENO, v);
-}
-
 // Prints what was tried: a name, how many calls, how many were refused by 4, and how many did not do
 // what they must.
-pub fn line(name: &[u8], t: Tally) {
-    text(name);
-    field(b": calls ", t.calls);
-    field(b", refused by 4 ", t.fours);
-    field(b", differ ", t.differ);
-    text(b"\n");
+pub fn line(rt: HostRuntime, name: &str, t: Tally) -> io::Result<()> {
+    println!(rt;
+        "{name}: calls {}, refused by 4 {}, differ {}",
+        t.calls, t.fours, t.differ
+    )
 }

@@ -6,16 +6,16 @@ use Rattle.bytes_calls.proofs.perform.Goals as goal
 
 pub perform_one-o-requires : goal.perform_one-o-requires
 perform_one-o-requires c =
-    let call = agreed.before.before.before.before.before.args.call in
-    own_told _ _ _ _ _ c.agrees.ensures _ call c.flow_record-r.ensures
+    let call = c.args.call in
+    own_told _ _ _ _ _ c.agrees-agreed.ensures _ call c.flow_record-r.ensures
 
 pub store-requires : goal.store-requires
 store-requires c =
-    let call = agreed.before.before.before.before.before.args.call in
-    store_room _ _ _ _ c.agrees.ensures _ call c.flow_record-r.ensures _ _ _ c.count_of.ensures c.perform_one-o.ensures
+    let call = c.args.call in
+    store_room _ _ _ _ c.agrees-agreed.ensures _ call c.flow_record-r.ensures _ _ _ c.count_of-n.ensures c.perform_one-o.ensures
 
 pub returns : goal.returns
 returns c =
-    let call = agreed.before.before.before.before.before.args.call in
-    performs_bytes _ _ _ _ c.agrees.ensures _ call c.flow_record-r.ensures _ _ _ c.count_of.ensures c.perform_one-o.ensures _
+    let call = c.args.call in
+    performs_bytes _ _ _ _ c.agrees-agreed.ensures _ call c.flow_record-r.ensures _ _ _ c.count_of-n.ensures c.perform_one-o.ensures _
     c.store.ensures

@@ -1,0 +1,14 @@
+-- The library's answer, which the numbers as given have too.
+use Rattle.face.specs.Wide.{select_given}
+use borrow.Author.Rules.{rules}
+use Rattle.face.proofs.jellyspire_raw_select.Goals as goal
+
+pub returns : goal.returns
+returns c =
+    record {
+      answer = c.select.result;
+      promised =
+          select_given _ _ _ _ _ c.wheel_of-w.ensures _ _ _ _ _ c.short.ensures c.short-most.ensures _
+          c.select.ensures;
+      told = c.tell_selected.ensures;
+    }

@@ -1,0 +1,36 @@
+// Input: a reader's bytes into a room, and a program's arguments as text. Nothing is allocated.
+#![tactic(auto)]
+
+ghost use Rattle.std.specs.Prelude.{◌<◌, ◌≤◌, length, take, IfOk};
+ghost use Rattle.std.specs.Io.KnownBytes.{Consumes, IsAtEnd};
+
+use std::io;
+use std::io::Read;
+use std::rt::Env;
+
+// Reads to the end of the input, or until the room is full; how many bytes that is. They stand at
+// the start of the room.
+pub fn read_full<R: Read>(from: &mut R, room: &mut [u8]) -> io::Result<usize>
+    ensures inside { IfOk result (λ n. n ≤ length room.new) }
+    ensures bytes { IfOk result (λ n. Consumes (R.remaining from.old) (R.remaining from.new) (take n room.new)) }
+    ensures end { IfOk result (λ n. n < length room.new → IsAtEnd (R.remaining from.new)) }
+{
+    let mut done = 0;
+    while done < room.len() {
+        let n = from.read(&mut room[done..])?;
+        if n == 0 {
+            return Ok(done);
+        }
+        done += n;
+    }
+    Ok(done)
+}
+
+// Argument k of the program, read into the room. There is none past the last, and none where it is
+// longer than the room or no text.
+pub fn argument<'a, E: Env>(env: &E, k: usize, room: &'a mut [u8]) -> Option<&'a str> {
+    match env.arg(k, room) {
+        Ok(n) => str::from_utf8(&room[..n]).ok(),
+        Err(_) => None,
+    }
+}
