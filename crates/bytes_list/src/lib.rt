@@ -10,6 +10,7 @@ ghost use Rattle.bytes_list.specs.Layout.{count_of, number_at, numbers_at, known
 use rules::{Demand, Record, State, Words};
 
 // How many records the bytes are; 0 if their number is no multiple of 64.
+#[tactic(auto, unfolding(crate::specs::Layout::count_of))]
 pub fn count_of(bytes: &[u8]) -> usize
     ensures { result ≡ count_of bytes.now }
 {

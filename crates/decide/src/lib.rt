@@ -19,6 +19,7 @@ pub enum Gate {
     Through,
 }
 
+#[tactic(auto, using(crate::proofs::Passed::too_many))]
 pub fn enter(table: &[u8], chip: Chip, n: usize, agreed: bool) -> Gate
     ensures { Gates chip table.now n (agreed ≡ false) result }
 {

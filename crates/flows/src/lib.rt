@@ -109,6 +109,7 @@ fn blank(r: Record) -> bool
 }
 
 // Whether an open record with the demand d obeys its rules.
+#[tactic(auto, using(crate::proofs::Lengths::too_long))]
 fn lawful(chip: Chip, d: Demand, r: Record) -> bool
     requires { Legal chip.wheel }
     ensures { Tells result (Lawful chip d r) }

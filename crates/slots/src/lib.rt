@@ -37,6 +37,7 @@ pub fn legal(w: Wheel) -> bool
 }
 
 // Whether every slot of x is below n.
+#[tactic(auto, using(crate::proofs::Words::below_word))]
 pub fn below(x: u64, n: usize) -> bool
     ensures { Tells result (Below n x) }
 {

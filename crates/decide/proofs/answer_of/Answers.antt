@@ -1,6 +1,5 @@
 -- Case by case.
 use mathlib.Core.Path.{sym, ap}
-use borrow.Author.Rules.{rules}
 use Rattle.decide.specs.Decisions.{of_selected}
 use Rattle.decide.proofs.answer_of.Goals as goal
 

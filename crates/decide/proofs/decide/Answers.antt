@@ -1,18 +1,11 @@
 -- The gate's refusal, or what is decided behind it.
 use mathlib.Core.Path.{◌≡◌, subst}
-use mathlib.Core.Bool.{Bool, false}
-use mathlib.Core.List.{List}
-use Prim.Native.Nat.{ℕ}
-use borrow.Author.Rules.{rules}
-use Rattle.rules.specs.Paths.{Chip}
-use Rattle.rules.specs.Numbers.{Passes}
+use mathlib.Core.Bool.{false}
 use Rattle.rules.specs.Orders.{checked}
 use Rattle.laws.specs.Logic.{not_false_true}
 use Rattle.laws.specs.Refusals.{passed, ahead}
 use Rattle.table.specs.Along.{own_walkable}
 use Rattle.ledger.specs.Lines.{checked_ready}
-use Rattle.decide.specs.declared.Gate.{Gate}
-use Rattle.decide.specs.declared.Gate.TheVariants.{Through}
 use Rattle.decide.specs.Decisions.{Gates, Settles}
 use Rattle.decide.specs.Behind.{through, decides_behind}
 use Rattle.decide.proofs.decide.Goals as goal

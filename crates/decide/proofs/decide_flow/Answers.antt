@@ -4,7 +4,6 @@ use mathlib.Core.List.{List}
 use mathlib.Core.Logic.{inl, inr}
 use Prim.Native.Nat.{ℕ, ◌≤◌}
 use native.Mathlib.Omega.{arith}
-use borrow.Author.Rules.{rules}
 use borrow.Author.Tests.{not-true, not-false}
 use Rattle.rules.specs.declared.State.{State}
 use Rattle.rules.specs.declared.Call.{Call}
@@ -42,7 +41,7 @@ returns-then-not-claims_cells c = λ t.
 pub returns : goal.returns
 unfolding Settles
 returns c = λ t. (
-      more (order c.args.chip t c.args.n c.args.r.state c.args.call) 10 (p10 c.args.chip t c.args.n c.args.r.state c.args.call (omega arith) (omega arith))
-          (not_both (sym c.claims_cells.ensures ∙ not-false _ c.if-not-claims_cells.false-raw)),
-      c.cells_of.ensures,
-    )
+  more (order c.args.chip t c.args.n c.args.r.state c.args.call) 10 (p10 c.args.chip t c.args.n c.args.r.state c.args.call (omega arith) (omega arith))
+      (not_both (sym c.claims_cells.ensures ∙ not-false _ c.if-not-claims_cells.false-raw)),
+  c.cells_of.ensures,
+)

@@ -1,6 +1,5 @@
 -- By the verb.
 use mathlib.Core.Path.{sym, subst}
-use borrow.Author.Rules.{rules}
 use Rattle.decide.specs.Decisions.{DecidesOwn}
 use Rattle.decide.proofs.decide_own.Goals as goal
 

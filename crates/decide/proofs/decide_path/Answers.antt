@@ -5,7 +5,6 @@ use mathlib.Core.List.{List}
 use mathlib.Core.Logic.{inl, inr}
 use Prim.Native.Nat.{ℕ, ◌-◌, ◌≤◌, ◌<◌}
 use native.Mathlib.Omega.{arith}
-use borrow.Author.Rules.{rules}
 use borrow.Author.Tests.{not-true, not-false}
 use Rattle.rules.specs.declared.Demand.{Demand}
 use Rattle.rules.specs.declared.State.{State}
@@ -76,37 +75,37 @@ pub returns-then-call-lt1 : goal.returns-then-call-lt1
 unfolding Settles
 returns-then-call-lt1 c =
     let p = p8 c.args.chip c.args.table.now c.args.n c.args.r.state c.args.call c.args.demand (omega arith) (omega arith)
-        (c.inside.ensures.yes (not-false _ c.if-not-inside.false-raw)) (c.once.ensures.yes (not-false _ c.if-not-once.false-raw)) in
+    (c.inside.ensures.yes (not-false _ c.if-not-inside.false-raw)) (c.once.ensures.yes (not-false _ c.if-not-once.false-raw)) in
     first _ 8 p (inl (omega arith))
 
 pub returns-then-n-call : goal.returns-then-n-call
 unfolding Settles
 returns-then-n-call c =
     let p = p8 c.args.chip c.args.table.now c.args.n c.args.r.state c.args.call c.args.demand (omega arith) (omega arith)
-        (c.inside.ensures.yes (not-false _ c.if-not-inside.false-raw)) (c.once.ensures.yes (not-false _ c.if-not-once.false-raw)) in
+    (c.inside.ensures.yes (not-false _ c.if-not-inside.false-raw)) (c.once.ensures.yes (not-false _ c.if-not-once.false-raw)) in
     first _ 8 p (inr c.if-n-call.true)
 
 pub returns-then-claims_cells : goal.returns-then-claims_cells
 unfolding Settles
 returns-then-claims_cells c =
     let p = p9 c.args.chip c.args.table.now c.args.n c.args.r.state c.args.call c.args.demand (omega arith) (omega arith)
-        (c.inside.ensures.yes (not-false _ c.if-not-inside.false-raw)) (c.once.ensures.yes (not-false _ c.if-not-once.false-raw)) (omega arith) (omega arith) in
+    (c.inside.ensures.yes (not-false _ c.if-not-inside.false-raw)) (c.once.ensures.yes (not-false _ c.if-not-once.false-raw)) (omega arith) (omega arith) in
     first _ 9 p (sym c.claims_cells.ensures ∙ c.if-claims_cells.true)
 
 pub returns-then-demand-lt1 : goal.returns-then-demand-lt1
 unfolding Settles
 returns-then-demand-lt1 c =
     let p = p11 c.args.chip c.args.table.now c.args.n c.args.r.state c.args.call c.args.demand (omega arith) (omega arith)
-        (c.inside.ensures.yes (not-false _ c.if-not-inside.false-raw)) (c.once.ensures.yes (not-false _ c.if-not-once.false-raw)) (omega arith) (omega arith)
-        (sym c.claims_cells.ensures ∙ c.if-claims_cells.false) in
+    (c.inside.ensures.yes (not-false _ c.if-not-inside.false-raw)) (c.once.ensures.yes (not-false _ c.if-not-once.false-raw)) (omega arith) (omega arith)
+    (sym c.claims_cells.ensures ∙ c.if-claims_cells.false) in
     first _ 11 p (omega arith)
 
 pub returns-then-last-travel : goal.returns-then-last-travel
 unfolding Settles
 returns-then-last-travel c =
     let p = p12 c.args.chip c.args.table.now c.args.n c.args.r.state c.args.call c.args.demand (omega arith) (omega arith)
-        (c.inside.ensures.yes (not-false _ c.if-not-inside.false-raw)) (c.once.ensures.yes (not-false _ c.if-not-once.false-raw)) (omega arith) (omega arith)
-        (sym c.claims_cells.ensures ∙ c.if-claims_cells.false) (omega arith) in
+    (c.inside.ensures.yes (not-false _ c.if-not-inside.false-raw)) (c.once.ensures.yes (not-false _ c.if-not-once.false-raw)) (omega arith) (omega arith)
+    (sym c.claims_cells.ensures ∙ c.if-claims_cells.false) (omega arith) in
     first _ 12 p (omega (arith, c.travel-travel.ensures))
 
 pub free_slots-free-requires : goal.free_slots-free-requires
@@ -119,8 +118,8 @@ returns c =
     let a = c.args in
     let time : travel a.chip a.call.path a.call.len < a.demand.deadline = omega (arith, c.travel-travel.ensures) in
     let p = p13 c.args.chip c.args.table.now c.args.n c.args.r.state c.args.call c.args.demand (omega arith) (omega arith)
-        (c.inside.ensures.yes (not-false _ c.if-not-inside.false-raw)) (c.once.ensures.yes (not-false _ c.if-not-once.false-raw)) (omega arith) (omega arith)
-        (sym c.claims_cells.ensures ∙ c.if-claims_cells.false) (omega arith) time in
+    (c.inside.ensures.yes (not-false _ c.if-not-inside.false-raw)) (c.once.ensures.yes (not-false _ c.if-not-once.false-raw)) (omega arith) (omega arith)
+    (sym c.claims_cells.ensures ∙ c.if-claims_cells.false) (omega arith) time in
     rw c.answer_of.ensures
     (selection_settles (before (order c.args.chip c.args.table.now c.args.n c.args.r.state c.args.call c.args.demand) 13) a.chip a.table.now a.r a.call a.demand _ _ c.requires.0
-        (omega arith) (omega arith) c.free_slots-free.ensures (ap (λ k. a.demand.deadline - k) c.travel-travel.ensures) p _ c.select.ensures)
+    (omega arith) (omega arith) c.free_slots-free.ensures (ap (λ k. a.demand.deadline - k) c.travel-travel.ensures) p _ c.select.ensures)

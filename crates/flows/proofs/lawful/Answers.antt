@@ -11,9 +11,6 @@ use Rattle.flows.proofs.lawful.Goals as goal
 pub returns-then-len-lt1 : goal.returns-then-len-lt1
 returns-then-len-lt1 c = tells_no (λ f. omega (arith, f.some))
 
-pub returns-then-len-gt16 : goal.returns-then-len-gt16
-returns-then-len-gt16 c = tells_no (λ f. omega (arith, f.fits))
-
 pub returns-then-not-inside : goal.returns-then-not-inside
 returns-then-not-inside c = tells_no (λ f. c.inside.ensures.no (not-true _ c.if-not-inside.true-raw) f.inside)
 
@@ -42,7 +39,7 @@ returns c =
     record {
       yes = λ e. record {
         some = c.if-len-lt1.false;
-        fits = c.if-len-gt16.false;
+        fits = omega arith;
         inside = c.inside.ensures.yes (not-false _ c.if-not-inside.false-raw);
         once = c.once.ensures.yes (not-false _ c.if-not-once.false-raw);
         rest = c.rest.ensures.yes (not-false _ c.if-not-rest.false-raw);

@@ -1,6 +1,7 @@
 -- The loop has counted the cells before cell i that are not 0.
 use mathlib.Core.Path.{◌≡◌, refl, ap, ◌∙◌}
 use mathlib.Core.Bool.{cond}
+use Prim.Native.Nat.{ℕ}
 use native.Mathlib.Omega.{arith}
 use lib.ListN.{length, get_or}
 use borrow.Author.Tests.{eq-eqb, ne_eqb}
@@ -8,8 +9,13 @@ use Rattle.rules.specs.Sets.{sum}
 use Rattle.laws.specs.Counting.{sum_more}
 use Rattle.ledger.specs.Totals.{used, used_cells}
 use Rattle.table.proofs.count_used.Goals as goal
-use Rattle.table.proofs.count_used.Goals.{then-table-i-ne0, else-table-i-ne0}
 use Rattle.table.proofs.count_used.Invariants.{counted}
+
+used_none : (v : ℕ) → v ≡ 0 → used v ≡ 0
+used_none v e = ap (λ b. cond b 0 1) (eq-eqb v 0 e)
+
+used_one : (v : ℕ) → ¬ (v ≡ 0) → used v ≡ 1
+used_one v e = ap (λ b. cond b 0 1) (ne_eqb v 0 e)
 
 pub loop-i-init : goal.loop-i-init
 unfolding sum
@@ -19,15 +25,7 @@ pub loop-i-preserved : goal.loop-i-preserved
 loop-i-preserved c =
     let at = c.loop-i in
     let t = c.args.table.now in
-    let v = get_or t at.i 0 in
-    elim c.if-table-i-ne0.branch [
-      | then-table-i-ne0 w ↦
-          let one : used v ≡ 1 = ap (λ b. cond b 0 1) (ne_eqb v 0 w.if-table-i-ne0.true) in
-          (omega arith, omega arith, omega (arith, at.invariant.2, sum_more (λ j. used (get_or t j 0)) at.i))
-      | else-table-i-ne0 w ↦
-          let none : used v ≡ 0 = ap (λ b. cond b 0 1) (eq-eqb v 0 w.if-table-i-ne0.false) in
-          (omega arith, omega arith, omega (arith, at.invariant.2, sum_more (λ j. used (get_or t j 0)) at.i))
-    ]
+    grind (arith, at.invariant.2, sum_more (λ j. used (get_or t j 0)) at.i, used_none (get_or t at.i 0), used_one (get_or t at.i 0))
 
 pub returns : goal.returns
 unfolding used_cells
