@@ -1,7 +1,6 @@
 -- What the line means decides which of the four is done.
 use mathlib.Core.Path.{subst}
 use native.Mathlib.Omega.{arith}
-use borrow.Author.Rules.{rules}
 use Rattle.reading.specs.Told.{Told, told}
 use Rattle.grammar.specs.Short.{bad_short}
 use Rattle.answering.specs.Lines.{lined_open, lined_close, lined_report, lined_bad}

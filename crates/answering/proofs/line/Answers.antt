@@ -1,5 +1,4 @@
 -- The text, then a line feed.
-use borrow.Author.Rules.{rules}
 use Rattle.answering.specs.Lines.{fed}
 use Rattle.answering.proofs.line.Goals as goal
 

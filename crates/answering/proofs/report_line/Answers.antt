@@ -1,6 +1,5 @@
 -- The call answers for the default wheel and 16 records, and its answer is printed.
 use native.Mathlib.Omega.{arith}
-use borrow.Author.Rules.{rules}
 use Rattle.grammar.specs.Short.{report_short}
 use Rattle.answering.specs.Lines.{reported}
 use Rattle.answering.proofs.report_line.Goals as goal

@@ -1,7 +1,6 @@
 -- By the report.
 use Rattle.face.specs.Wide.{report_given}
 use Rattle.face.specs.Cases.{agree_yes, agree_no}
-use borrow.Author.Rules.{rules}
 use Rattle.face.proofs.jellyspire_raw_agree.Goals as goal
 
 pub returns-in-Counted : goal.returns-in-Counted

@@ -1,6 +1,5 @@
 -- The library's answer, which the numbers as given have too.
 use Rattle.face.specs.Wide.{close_given}
-use borrow.Author.Rules.{rules}
 use Rattle.face.proofs.jellyspire_raw_close.Goals as goal
 
 pub returns : goal.returns

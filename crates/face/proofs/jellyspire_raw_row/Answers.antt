@@ -2,7 +2,6 @@
 use native.Mathlib.Omega.{arith}
 use Rattle.face.specs.Wide.{row_given}
 use Rattle.face.specs.Cases.{row_none, row_inside, row_there}
-use borrow.Author.Rules.{rules}
 use Rattle.face.proofs.jellyspire_raw_row.Goals as goal
 
 pub returns-then-length-eq0 : goal.returns-then-length-eq0

@@ -2,7 +2,6 @@
 use mathlib.Core.Path.{refl}
 use Rattle.face.specs.Told.{of_opened}
 use Rattle.face.specs.Cases.{told_as}
-use borrow.Author.Rules.{rules}
 use Rattle.face.proofs.tell_opened.Goals as goal
 
 pub returns-in-Granted : goal.returns-in-Granted

@@ -2,7 +2,6 @@
 use mathlib.Core.Path.{refl}
 use Rattle.face.specs.Told.{of_selected}
 use Rattle.face.specs.Cases.{told_as}
-use borrow.Author.Rules.{rules}
 use Rattle.face.proofs.tell_selected.Goals as goal
 
 pub returns-in-Chosen : goal.returns-in-Chosen

@@ -1,6 +1,5 @@
 -- Field by field.
 use Rattle.face.specs.Calls.{wheel_of}
-use borrow.Author.Rules.{rules}
 use Rattle.face.proofs.wheel_of.Goals as goal
 
 pub returns : goal.returns

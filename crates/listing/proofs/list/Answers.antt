@@ -1,5 +1,4 @@
 -- Three ways: no room, too much input, and the run.
-use borrow.Author.Rules.{rules}
 use Rattle.rules.specs.Sets.{list_of}
 use Rattle.grammar.specs.Text.{ascii}
 use Rattle.grammar.specs.Answers.{long_text}

@@ -1,10 +1,7 @@
 -- Each turn answers one line; the measure is what is left of the input.
-use mathlib.Core.Path.{◌≡◌, refl, ◌∙◌}
-use Prim.Native.Nat.{◌-◌}
+use mathlib.Core.Path.{refl, ◌∙◌}
 use native.Mathlib.Omega.{arith}
-use lib.ListN.{length}
-use Rattle.answering.specs.Lines.{state}
-use Rattle.listing.specs.Runs.{Going, going_start, going_on, going_end}
+use Rattle.listing.specs.Runs.{going_start, going_on, going_end}
 use Rattle.listing.proofs.run.Goals as goal
 
 pub loop-from-init : goal.loop-from-init

@@ -1,10 +1,9 @@
 -- Each turn answers one line; the measure is what is left of the input.
-use mathlib.Core.Path.{◌≡◌, refl, ◌∙◌}
+use mathlib.Core.Path.{◌≡◌}
 use Prim.Native.Nat.{◌-◌}
-use native.Mathlib.Omega.{arith}
 use lib.ListN.{length}
 use Rattle.answering.specs.Lines.{state}
-use Rattle.listing.specs.Runs.{Going, going_start, going_on, going_end}
+use Rattle.listing.specs.Runs.{Going}
 use Rattle.listing.proofs.run.Given as goal
 
 abbrev pub invariant-loop-from : goal.invariant-loop-from

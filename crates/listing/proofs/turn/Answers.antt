@@ -1,5 +1,4 @@
 -- The line from `from` on, answered.
-use borrow.Author.Rules.{rules}
 use Rattle.listing.specs.Runs.{turned}
 use Rattle.listing.proofs.turn.Goals as goal
 

@@ -1,5 +1,5 @@
 -- The loop goes over the bytes.
-use Rattle.std.proofs.Common.{◌≡◌, ◌-◌, ◌≤◌, length, rules}
+use Rattle.std.proofs.Common.{◌≡◌, ◌-◌, ◌≤◌, length}
 use Rattle.test_calls.proofs.fill_from.Given as goal
 
 abbrev pub invariant-loop-i : goal.invariant-loop-i

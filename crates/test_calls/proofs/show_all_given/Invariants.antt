@@ -1,5 +1,5 @@
 -- The loop goes over the numbers.
-use Rattle.std.proofs.Common.{◌-◌, ◌≤◌, rules}
+use Rattle.std.proofs.Common.{◌-◌, ◌≤◌}
 use Rattle.test_calls.proofs.show_all_given.Given as goal
 
 abbrev pub invariant-loop-i : goal.invariant-loop-i

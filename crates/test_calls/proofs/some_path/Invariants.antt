@@ -1,5 +1,5 @@
 -- The loop goes over the entries.
-use Rattle.std.proofs.Common.{◌≡◌, ◌-◌, ◌≤◌, length, rules}
+use Rattle.std.proofs.Common.{◌≡◌, ◌-◌, ◌≤◌, length}
 use Rattle.test_calls.proofs.some_path.Given as goal
 
 abbrev pub invariant-loop-i : goal.invariant-loop-i
