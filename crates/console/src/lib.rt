@@ -1,7 +1,7 @@
 // The listing program on a reader and a writer: what it reads and where it prints.
 #![tactic(auto)]
 
-ghost use Rattle.std.specs.Prelude.{◌≡◌, ◌<◌, ◌≤◌, length, OnOk};
+ghost use Rattle.std.specs.Prelude.{◌<◌, ◌≤◌, length, OnOk};
 ghost use Rattle.console.specs.Printed.{Printed};
 
 use std::io;
