@@ -1,6 +1,5 @@
 -- The change is written, or nothing is done.
 use mathlib.Core.Path.{refl, subst}
-use borrow.Author.Rules.{rules}
 use Rattle.rules.specs.Paths.{Stamped}
 use Rattle.laws.specs.Logic.{not_both}
 use Rattle.perform.proofs.mark_if.Goals as goal

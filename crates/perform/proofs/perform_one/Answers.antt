@@ -1,6 +1,5 @@
 -- The decision, then the writing of the cells, if it grants.
 use mathlib.Core.Path.{sym, ap, ◌∙◌, subst}
-use borrow.Author.Rules.{rules}
 use Rattle.perform.specs.Performed.{MarksIf, done_markable}
 use Rattle.perform.proofs.perform_one.Goals as goal
 

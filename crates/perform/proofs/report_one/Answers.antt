@@ -4,9 +4,6 @@ use mathlib.Core.Bool.{false}
 use native.Mathlib.Omega.{arith}
 use native.Mathlib.Nat.{mul-le-mul}
 use Rattle.ledger.specs.Lines.{checked_ready}
-use borrow.Author.Rules.{rules}
-use Rattle.rules.specs.Numbers.{Passes}
-use Rattle.rules.specs.Orders.{checked}
 use Rattle.decide.specs.Decisions.{Gates}
 use Rattle.decide.specs.Behind.{through}
 use Rattle.perform.specs.Performed.{ReportsOne}
