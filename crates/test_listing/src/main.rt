@@ -2,8 +2,7 @@
 // cases and what is expected of them were made outside, by no program of ours.
 #![tactic(auto)]
 
-use std::fs;
-use std::io;
+use std::{fs, io};
 
 // One case: its name, and its listing.
 fn one(rt: HostRuntime, name: &str) -> io::Result<()> {

@@ -1,6 +1,5 @@
 -- The chip is made, and asked.
 use mathlib.Core.Path.{subst}
-use borrow.Author.Rules.{rules}
 use Rattle.rules.specs.Tells.{Tells}
 use Rattle.bytes_calls.specs.OverBytes.{AgreesBytes}
 use Rattle.bytes_calls.proofs.agree.Goals as goal

@@ -1,6 +1,5 @@
 -- Every record is checked, then the used cells are counted.
 use Rattle.agree.specs.Checks.{settles}
-use borrow.Author.Rules.{rules}
 use Rattle.bytes_calls.proofs.agrees.Goals as goal
 
 pub returns : goal.returns

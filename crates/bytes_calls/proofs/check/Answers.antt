@@ -1,12 +1,8 @@
 -- The loop has checked the records below f.
-use mathlib.Core.Path.{◌≡◌}
-use Prim.Native.Nat.{◌-◌, ◌≤◌}
 use native.Mathlib.Omega.{arith}
 use borrow.Author.Tests.{not-true, not-false}
-use Rattle.agree.specs.Checks.{Checks, checks_none, checks_given_up, checks_all}
-use Rattle.bytes_list.specs.Layout.{count_of, list_in}
+use Rattle.agree.specs.Checks.{checks_none, checks_given_up, checks_all}
 use Rattle.bytes_calls.specs.OverBytes.{record_room, checks_next, checks_counted}
-use borrow.Author.Rules.{rules}
 use Rattle.bytes_calls.proofs.check.Goals as goal
 
 pub returns-then-not-c : goal.returns-then-not-c
@@ -33,9 +29,7 @@ step-c-requires c =
 
 pub loop-f-preserved : goal.loop-f-preserved
 loop-f-preserved c =
-    
-    let at = c.loop-f in
-    (
+    let at = c.loop-f in (
       omega arith,
       at.invariant.1,
       at.invariant.2,

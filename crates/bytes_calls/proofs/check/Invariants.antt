@@ -1,12 +1,8 @@
 -- The loop has checked the records below f.
 use mathlib.Core.Path.{◌≡◌}
 use Prim.Native.Nat.{◌-◌, ◌≤◌}
-use native.Mathlib.Omega.{arith}
-use borrow.Author.Tests.{not-true, not-false}
-use Rattle.agree.specs.Checks.{Checks, checks_none, checks_given_up, checks_all}
+use Rattle.agree.specs.Checks.{Checks}
 use Rattle.bytes_list.specs.Layout.{count_of, list_in}
-use Rattle.bytes_calls.specs.OverBytes.{record_room, checks_next, checks_counted}
-use borrow.Author.Rules.{rules}
 use Rattle.bytes_calls.proofs.check.Given as goal
 
 abbrev pub invariant-loop-f : goal.invariant-loop-f

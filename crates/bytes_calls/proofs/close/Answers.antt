@@ -1,5 +1,4 @@
 -- A call, and its answer in a closing's words.
-use borrow.Author.Rules.{rules}
 use Rattle.bytes_calls.specs.OverBytes.{closes_bytes}
 use Rattle.bytes_calls.proofs.close.Goals as goal
 

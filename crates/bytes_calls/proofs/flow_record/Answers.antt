@@ -2,7 +2,6 @@
 use native.Mathlib.Omega.{arith}
 use Rattle.bytes_list.specs.ReadBack.{count_room}
 use Rattle.bytes_calls.specs.OverBytes.{listed_record}
-use borrow.Author.Rules.{rules}
 use Rattle.bytes_calls.proofs.flow_record.Goals as goal
 
 pub returns-then-flow-lt1 : goal.returns-then-flow-lt1

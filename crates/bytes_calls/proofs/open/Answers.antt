@@ -1,5 +1,4 @@
 -- A call, and its answer in an opening's words.
-use borrow.Author.Rules.{rules}
 use Rattle.bytes_calls.specs.OverBytes.{opens_bytes}
 use Rattle.bytes_calls.proofs.open.Goals as goal
 

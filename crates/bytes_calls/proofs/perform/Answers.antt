@@ -1,5 +1,4 @@
 -- Agreement, the flow's record, the call on that one record, and its bytes.
-use borrow.Author.Rules.{rules}
 use Rattle.perform.specs.Joined.{own_told}
 use Rattle.bytes_calls.specs.OverBytes.{store_room, performs_bytes}
 use Rattle.bytes_calls.proofs.perform.Goals as goal

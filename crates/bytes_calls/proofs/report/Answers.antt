@@ -1,7 +1,6 @@
 -- The check tells whether table and list agree, and how many cells the records claim.
 use mathlib.Core.Path.{◌≡◌, subst}
 use mathlib.Core.Bool.{false}
-use borrow.Author.Rules.{rules}
 use Rattle.agree.specs.Checks.{settles}
 use Rattle.perform.specs.Performed.{ReportsOne}
 use Rattle.perform.specs.Joined.{reports_joined}

@@ -2,7 +2,6 @@
 use mathlib.Core.Path.{refl}
 use native.Mathlib.Omega.{arith}
 use Rattle.laws.specs.Logic.{not_both}
-use borrow.Author.Rules.{rules}
 use Rattle.bytes_calls.proofs.store.Goals as goal
 
 pub overflow_mul-at : goal.overflow_mul-at
