@@ -1,6 +1,7 @@
 -- The loop reads one field a turn.
 use mathlib.Core.Path.{◌≡◌}
 use native.Mathlib.Omega.{arith}
+use lib.ListN.{get_or}
 use borrow.Author.Tests.{not-true, not-false}
 use Rattle.decimals.specs.Digits.{was_found, was_missing}
 use Rattle.decimals.specs.Columns.{going_start, going_on, going_end, too_many, no_space, not_numbered, no_split}
@@ -31,8 +32,11 @@ loop-i-smaller c =
 
 pub loop-i-preserved : goal.loop-i-preserved
 loop-i-preserved c =
+    let at = c.loop-i in
     let there = was_found _ _ _ c.number_at-n.ensures (not-false _ c.if-not-n.false) in
-    going_on _ _ _ _ _ c.loop-i.invariant c.loop-i-test.true _ _ c.if-line-i-ne32.false there c.if-count-eq19.false
+    let space : get_or c.args.line.now at.i 0 ≡ 32 = omega arith in
+    let room : at.count ≡ 19 → ⊥ = λ e. omega arith in
+    going_on _ _ _ _ _ at.invariant c.loop-i-test.true _ _ space there room
 
 pub returns : goal.returns
 returns c = going_end _ _ _ _ _ c.loop-i.invariant c.loop-i-test.false

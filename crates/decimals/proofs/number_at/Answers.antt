@@ -42,7 +42,7 @@ pub loop-d-preserved : goal.loop-d-preserved
 loop-d-preserved c =
     let at = c.loop-d in
     let some : 0 < at.value = omega arith in
-    let small : at.value * 10 + at.d ≤ 65535 = omega (arith, c.if-value-gt65535.false) in (
+    let small : at.value * 10 + at.d ≤ 65535 = omega arith in (
       next_digit _ _ _ _ at.d at.invariant.0 at.invariant.1 c.loop-d-test.true some small,
       c.digit_at-d-in-loop-d.ensures,
     )

@@ -1,14 +1,14 @@
 -- The slots below s are printed.
 use mathlib.Core.Path.{◌≡◌, ap}
-use Prim.Native.Nat.{◌<◌}
+use mathlib.Core.List.{List}
+use Prim.Native.Nat.{ℕ, ◌+◌, ◌/◌, ◌%◌, ◌^◌, ◌<◌}
 use native.Mathlib.Omega.{arith}
 use borrow.Author.Tests.{eq-eqb, ne_eqb}
 use Rattle.rules.specs.Sets.{has, places}
-use Rattle.grammar.specs.Text.{fields}
-use Rattle.texts.specs.Puts.{puts_nothing, puts_same}
+use Rattle.grammar.specs.Text.{field, fields}
+use Rattle.texts.specs.Puts.{Puts, puts_nothing, puts_same}
 use Rattle.texts.specs.Slots.{slot_room, slot_yes, slot_no, slots_length}
 use Rattle.texts.proofs.put_slots.Goals as goal
-use Rattle.texts.proofs.put_slots.Goals.{then-slots-s-eq1, else-slots-s-eq1}
 
 pub loop-s-init : goal.loop-s-init
 unfolding places fields
@@ -20,11 +20,12 @@ put_field-next-requires c =
     let at = c.loop-s in
     let f = has c.args.slots in
     let below : at.s < 64 = omega (arith, c.loop-s-test.true) in
+    let one : c.args.slots / 2 ^ at.s % 2 ≡ 1 = omega arith in
     omega (
       arith,
       at.invariant.1.place,
       slots_length f at.s at.invariant.0 c.requires at.invariant.1,
-      slot_room f at.s (eq-eqb _ _ c.if-slots-s-eq1.true) below,
+      slot_room f at.s (eq-eqb _ _ one) below,
       c.requires,
     )
 
@@ -33,14 +34,13 @@ unfolding has
 loop-s-preserved c =
     let at = c.loop-s in
     let f = has c.args.slots in
-    let below : at.s < 64 = omega (arith, c.loop-s-test.true) in (
-      omega arith,
-      elim c.if-slots-s-eq1.branch [
-        | then-slots-s-eq1 w ↦
-            rw (w.out-is, w.next-is) (slot_yes f at.s at.invariant.1 (eq-eqb _ _ w.if-slots-s-eq1.true) below c.requires w.put_field-next.ensures)
-        | else-slots-s-eq1 w ↦ rw (w.out-is, w.next-is) (slot_no f at.s at.invariant.1 (ne_eqb _ _ w.if-slots-s-eq1.false))
-      ],
-    )
+    let below : at.s < 64 = omega (arith, c.loop-s-test.true) in
+    let yes : (out : List ℕ) (next : ℕ) → c.args.slots / 2 ^ at.s % 2 ≡ 1 → Puts at.out at.next (field at.s) out next
+    → Puts c.args.out.now c.args.at (fields (places f 0 (at.s + 1))) out next =
+    λ out next e put. slot_yes f at.s at.invariant.1 (eq-eqb _ _ e) below c.requires put in
+    let no : ¬ (c.args.slots / 2 ^ at.s % 2 ≡ 1) → Puts c.args.out.now c.args.at (fields (places f 0 (at.s + 1))) at.out at.next =
+    λ e. slot_no f at.s at.invariant.1 (ne_eqb _ _ e) in
+    (omega arith, grind (arith, yes, no))
 
 pub shape_of-out : goal.shape_of-out
 shape_of-out c =
