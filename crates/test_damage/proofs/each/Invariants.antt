@@ -1,6 +1,5 @@
 -- The loop goes over the changes.
 use Prim.Native.Nat.{◌-◌, ◌≤◌}
-use borrow.Author.Rules.{rules}
 use Rattle.test_damage.proofs.each.Given as goal
 
 abbrev pub invariant-loop-k : goal.invariant-loop-k

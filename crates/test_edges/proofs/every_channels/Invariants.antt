@@ -1,6 +1,5 @@
 -- The loop goes over the channel counts.
 use Prim.Native.Nat.{◌-◌, ◌≤◌}
-use borrow.Author.Rules.{rules}
 use Rattle.test_edges.proofs.every_channels.Given as goal
 
 abbrev pub invariant-loop-channels : goal.invariant-loop-channels

@@ -1,6 +1,5 @@
 -- The loop goes over the lengths.
 use Prim.Native.Nat.{◌-◌, ◌≤◌}
-use borrow.Author.Rules.{rules}
 use Rattle.test_edges.proofs.every_list.Given as goal
 
 abbrev pub invariant-loop-k : goal.invariant-loop-k

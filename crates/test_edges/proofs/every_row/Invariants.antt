@@ -1,6 +1,5 @@
 -- The loop goes over the channels.
 use Prim.Native.Nat.{◌-◌, ◌≤◌}
-use borrow.Author.Rules.{rules}
 use Rattle.test_edges.proofs.every_row.Given as goal
 
 abbrev pub invariant-loop-c : goal.invariant-loop-c

@@ -1,6 +1,5 @@
 -- The loop goes over the path lengths.
 use Prim.Native.Nat.{◌-◌, ◌≤◌}
-use borrow.Author.Rules.{rules}
 use Rattle.test_edges.proofs.least_deadlines.Given as goal
 
 abbrev pub invariant-loop-len : goal.invariant-loop-len

@@ -1,6 +1,5 @@
 -- The loop goes over the numbers.
 use Prim.Native.Nat.{◌-◌, ◌≤◌}
-use borrow.Author.Rules.{rules}
 use Rattle.test_pairs.proofs.every_number.Given as goal
 
 abbrev pub invariant-loop-no : goal.invariant-loop-no

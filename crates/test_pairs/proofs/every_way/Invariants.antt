@@ -1,6 +1,5 @@
 -- The loop goes over the ways.
 use Prim.Native.Nat.{◌-◌, ◌≤◌}
-use borrow.Author.Rules.{rules}
 use Rattle.test_pairs.proofs.every_way.Given as goal
 
 abbrev pub invariant-loop-way : goal.invariant-loop-way

@@ -1,6 +1,5 @@
 -- The loop goes over the later numbers.
 use Prim.Native.Nat.{◌-◌, ◌≤◌}
-use borrow.Author.Rules.{rules}
 use Rattle.test_pairs.proofs.one_way.Given as goal
 
 abbrev pub invariant-loop-later : goal.invariant-loop-later

@@ -1,6 +1,5 @@
 -- The loop goes over the ways of the later condition.
 use Prim.Native.Nat.{◌-◌, ◌≤◌}
-use borrow.Author.Rules.{rules}
 use Rattle.test_pairs.proofs.with_later.Given as goal
 
 abbrev pub invariant-loop-way : goal.invariant-loop-way
