@@ -1,6 +1,7 @@
 -- A check that went well, and a count that is the number of claimed cells.
-use mathlib.Core.Path.{sym, ◌∙◌}
-use borrow.Author.Tests.{not-true, not-false, eqb-true, eqb-false}
+use borrow.Author.Tests.{not-true, not-false}
+use native.Mathlib.Omega.{arith}
+use Rattle.std.proofs.lemmas.Bool.Decides.{nat_tests}
 use Rattle.laws.specs.Logic.{tells_no, not_both}
 use Rattle.agree.proofs.settle.Goals as goal
 
@@ -11,6 +12,6 @@ pub returns : goal.returns
 returns c =
     let used = c.count_used.ensures in
     record {
-      yes = λ e. (not-false _ c.if-not-c.false, sym used ∙ eqb-true _ _ e);
-      no = λ e p. eqb-false _ _ e (used ∙ p.1);
+      yes = λ e. (not-false _ c.if-not-c.false, grind (arith, nat_tests, e, used));
+      no = λ e p. grind (arith, nat_tests, e, used, p.1);
     }

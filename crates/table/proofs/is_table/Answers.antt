@@ -1,6 +1,6 @@
 -- The tests are the three parts of `Tabled`.
 use native.Mathlib.Omega.{arith}
-use borrow.Author.Tests.{eqb-true, eqb-false}
+use Rattle.std.proofs.lemmas.Bool.Decides.{nat_tests}
 use Rattle.laws.specs.Logic.{tells_no}
 use Rattle.table.proofs.is_table.Goals as goal
 
@@ -13,6 +13,6 @@ returns-then-channels-gt64 c = tells_no (λ t. omega (arith, t.c64))
 pub returns : goal.returns
 returns c =
     record {
-      yes = λ e. record { c1 = omega arith; c64 = omega arith; long = eqb-true _ _ e };
-      no = λ e t. eqb-false _ _ e t.long;
+      yes = λ e. record { c1 = omega arith; c64 = omega arith; long = grind (arith, nat_tests, e) };
+      no = λ e t. grind (arith, nat_tests, e, t.long);
     }
