@@ -102,7 +102,8 @@ crates_of() { # NAME
         END { visit(name) }' "$top/crates.txt"
 }
 
-# Does the mark stand for these files and this kit? A file that was removed changes its folder.
+# Does the mark stand for these files and this kit? A file that was removed changes its folder; the folder of the crate itself is
+# passed over, since out/ changes it.
 fresh() { # MARK CRATE...
     local mark=$1
     shift

@@ -1,9 +1,10 @@
 // Input: a reader's bytes into a room, and a program's arguments as text. Nothing is allocated.
 #![tactic(auto)]
 
-ghost use Rattle.std.specs.Prelude.{◌<◌, ◌≤◌, length, take, IfOk};
+ghost use Rattle.std.specs.Prelude.{◌<◌, ◌≤◌, length, take, IfOk, IfSome};
 ghost use Rattle.std.specs.Io.KnownBytes.{Consumes, IsAtEnd};
 
+use std::env::FillError;
 use std::io;
 use std::io::Read;
 use std::rt::Env;
@@ -26,11 +27,17 @@ pub fn read_full<R: Read>(from: &mut R, room: &mut [u8]) -> io::Result<usize>
     Ok(done)
 }
 
-// Argument k of the program, read into the room. There is none past the last, and none where it is
-// longer than the room or no text.
-pub fn argument<'a, E: Env>(env: &E, k: usize, room: &'a mut [u8]) -> Option<&'a str> {
+// Argument k of the program, as text in the room; none past the last. One that is longer than the
+// room, or no text, is an error.
+pub fn argument<'a, E: Env>(env: &E, k: usize, room: &'a mut [u8]) -> io::Result<Option<&'a str>>
+    ensures { IfOk result (λ o. IfSome o (λ s. length s.now ≤ length room.old)) }
+{
     match env.arg(k, room) {
-        Ok(n) => str::from_utf8(&room[..n]).ok(),
-        Err(_) => None,
+        Ok(n) => match str::from_utf8(&room[..n]) {
+            Ok(text) => Ok(Some(text)),
+            Err(_) => Err(io::Error::from(io::ErrorKind::InvalidData)),
+        },
+        Err(FillError::NotPresent) => Ok(None),
+        Err(FillError::TooLong) => Err(io::Error::from(io::ErrorKind::InvalidInput)),
     }
 }

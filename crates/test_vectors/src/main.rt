@@ -306,7 +306,7 @@ fn file(rt: HostRuntime, name: &str) -> io::Result<()> {
 
 fn main(rt: HostRuntime) -> io::Result<()> {
     let mut room = [0u8; 4096];
-    match input::argument(&rt, 1, &mut room) {
+    match input::argument(&rt, 1, &mut room)? {
         Some(name) => file(rt, name),
         None => Err(io::Error::from(io::ErrorKind::NotFound)),
     }
