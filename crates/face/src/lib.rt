@@ -237,6 +237,7 @@ fn size_of(part: &[u8]) -> usize
 
 // Where the row of a channel starts in the table, and its length; 1 and nothing told if wheel, table
 // or channel is bad.
+#[tactic(auto, using(crate::proofs::Parts::row_refused))]
 pub fn jellyspire_raw_row(
     table: &[u8],
     n: usize,

@@ -61,6 +61,9 @@ fn zeros() -> [u8; 1024]
     [0; 1024]
 }
 
+// The longest input that is listed.
+const LONGEST: usize = 4096;
+
 // What the program prints for an input, at the start of `out`; how many bytes that is. Where `out`
 // has no room for 65,536 bytes it is left alone.
 pub fn list(input: &[u8], out: &mut [u8]) -> usize
@@ -69,7 +72,7 @@ pub fn list(input: &[u8], out: &mut [u8]) -> usize
     if out.len() < 65536 {
         return 0;
     }
-    if 4096 < input.len() {
+    if LONGEST < input.len() {
         return texts::put(out, 0, b"input too long\n");
     }
     let mut table = zeros();

@@ -1,21 +1,17 @@
 -- The part is empty, or it is the channel's row.
 use native.Mathlib.Omega.{arith}
 use Rattle.face.specs.Wide.{row_given}
-use Rattle.face.specs.Cases.{row_none, row_inside, row_there}
+use Rattle.face.specs.Cases.{row_inside, row_there}
 use Rattle.face.proofs.jellyspire_raw_row.Goals as goal
-
-pub returns-then-length-eq0 : goal.returns-then-length-eq0
-returns-then-length-eq0 c =
-    row_none _ _ _ _ (row_given _ _ _ _ _ c.wheel_of-w.ensures _ _ _ c.row.ensures) _ c.size_of-length.ensures c.if-length-eq0.true _
 
 pub overflow_mul-offset : goal.overflow_mul-offset
 overflow_mul-offset c =
     omega (
       arith,
-      row_inside _ _ _ _ (row_given _ _ _ _ _ c.wheel_of-w.ensures _ _ _ c.row.ensures) _ c.size_of-length.ensures c.if-length-eq0.false,
+      row_inside _ _ _ _ (row_given _ _ _ _ _ c.wheel_of-w.ensures _ _ _ c.row.ensures) _ c.size_of-length.ensures (λ e. omega (arith, e)),
     )
 
 pub returns : goal.returns
 returns c =
     row_there _ _ _ _ (row_given _ _ _ _ _ c.wheel_of-w.ensures _ _ _ c.row.ensures) _ c.size_of-length.ensures
-    c.if-length-eq0.false _
+    (λ e. omega (arith, e)) _

@@ -8,12 +8,12 @@ use Rattle.listing.proofs.list.Goals as goal
 pub returns-then-out-lt65536 : goal.returns-then-out-lt65536
 returns-then-out-lt65536 c = writes_nothing _ _ c.if-out-lt65536.true
 
-pub returns-then-input-gt4096 : goal.returns-then-input-gt4096
+pub returns-then-input-gt-LONGEST : goal.returns-then-input-gt-LONGEST
 unfolding long_text ascii list_of
-returns-then-input-gt4096 c =
-    writes_long _ _ _ _ c.if-out-lt65536.false c.if-input-gt4096.true c.put.ensures
+returns-then-input-gt-LONGEST c =
+    writes_long _ _ _ _ c.if-out-lt65536.false c.if-input-gt-LONGEST.true c.put.ensures
 
 pub returns : goal.returns
 returns c =
-    writes_lines _ _ _ _ _ _ c.if-out-lt65536.false c.if-input-gt4096.false c.zeros-table.ensures c.zeros-flows.ensures
+    writes_lines _ _ _ _ _ _ c.if-out-lt65536.false c.if-input-gt-LONGEST.false c.zeros-table.ensures c.zeros-flows.ensures
     c.run.ensures
