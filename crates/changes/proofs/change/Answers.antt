@@ -1,7 +1,7 @@
 -- By the verb.
-use mathlib.Core.Path.{sym, ap, ◌∙◌}
+use Rattle.std.proofs.Common.{sym, ap, ◌∙◌}
 use Rattle.rules.specs.Promises.{change}
-use Rattle.changes.proofs.change_by.Goals as goal
+use Rattle.changes.proofs.change.Goals as goal
 
 pub returns-in-ToOpen : goal.returns-in-ToOpen
 returns-in-ToOpen c =
