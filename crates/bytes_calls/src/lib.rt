@@ -29,18 +29,23 @@ pub fn perform(table: &mut [u8], list: &mut [u8], chip: Chip, call: Call) -> Res
     perform::perform(table, list, chip, call)
 }
 
-// Opens a flow on a path with a demand.
+// Opens a flow on the path of the first `len` entries with a demand.
 pub fn open(
     table: &mut [u8],
     list: &mut [u8],
     w: Wheel,
     flow: usize,
-    path: Path,
+    path: [u16; 16],
+    len: usize,
     demand: Demand,
 ) -> Result<Grant, Refusal>
-    ensures { OpensBytes (chip_of w table.old) table.old list.old path.entries path.len flow demand
+    ensures { OpensBytes (chip_of w table.old) table.old list.old path len flow demand
         table.new list.new result }
 {
+    let path = Path {
+        entries: path,
+        len,
+    };
     perform::open(table, list, w, flow, path, demand)
 }
 

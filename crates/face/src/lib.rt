@@ -13,7 +13,7 @@ ghost use Rattle.bytes_calls.specs.OverBytes.{ReportsBytes, ClosesBytes};
 ghost use Rattle.face.specs.Told.{Told, of_granted, of_cleared, of_reported, Answered};
 ghost use Rattle.face.specs.Calls.{wheel_of, Agreeing, OpensGiven, Rowing};
 
-use rules::{Demand, Grant, Path, Refusal, Totals, Wheel, Words};
+use rules::{Demand, Grant, Refusal, Totals, Wheel, Words};
 
 // ---- what C gives
 
@@ -159,15 +159,12 @@ pub fn jellyspire_raw_open(
         words deadline table.new list.new) of_granted result values.old values.new }
 {
     let w = wheel_of(n, s, h, p);
-    let path = Path {
-        entries: *path,
-        len,
-    };
+    let channels = *path;
     let demand = Demand {
         words: Words(short(words)),
         deadline: short(deadline),
     };
-    let a = bytes_calls::open(table, list, w, flow, path, demand);
+    let a = bytes_calls::open(table, list, w, flow, channels, len, demand);
     tell(granted(a), values)
 }
 

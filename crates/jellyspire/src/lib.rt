@@ -50,17 +50,22 @@ pub fn perform(
     perform::perform(table, list, chip, call)
 }
 
-// Opens a flow on a path with a demand.
+// Opens a flow on the path of the first `len` entries with a demand.
 pub fn open(
     table: &mut [u8],
     list: &mut [Record],
     w: Wheel,
     flow: usize,
-    path: Path,
+    path: [u16; 16],
+    len: usize,
     demand: Demand,
 ) -> Result<Grant, Refusal>
-    ensures { OpensLent w table.old list.old path.entries path.len flow demand table.new list.new result }
+    ensures { OpensLent w table.old list.old path len flow demand table.new list.new result }
 {
+    let path = Path {
+        entries: path,
+        len,
+    };
     perform::open(table, list, w, flow, path, demand)
 }
 
