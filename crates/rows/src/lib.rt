@@ -2,7 +2,7 @@
 // some slots later here than at its path's first channel. Nothing here knows paths or other rows.
 #![tactic(auto)]
 
-ghost use Rattle.std.specs.Prelude.{◌≡◌, true, ◌<◌};
+ghost use Rattle.std.specs.Prelude.{◌≡◌, true, ◌<◌, length};
 ghost use Rattle.rules.specs.Tells.{Tells};
 ghost use Rattle.rules.specs.Sets.{set_of};
 ghost use Rattle.rules.specs.Wheels.{Legal};
@@ -65,8 +65,10 @@ pub fn still_free(row: &[u8; 64], turn: Turn, x: u64) -> u64
     y
 }
 
-// Writes v into the cells of a row that the slots x reach.
-pub fn mark_row(row: &mut [u8; 64], turn: Turn, x: u64, v: u8)
+// Writes v into the cells of a row that the slots x reach. The row is a slice and no array: what the
+// table holds after a part of it was lent as an array, a proof does not learn.
+pub fn mark_row(row: &mut [u8], turn: Turn, x: u64, v: u8)
+    requires { length row.old ≡ 64 }
     ensures { RowStamped turn.wheel.n turn.shift x v row.old row.new }
 {
     let n = turn.wheel.n;
