@@ -1,9 +1,8 @@
 -- Either the sum is a slot of the wheel already, or it is one turn too large.
-use mathlib.Core.Path.{sym, ◌∙◌}
-use native.Mathlib.Omega.{arith}
-use native.Mathlib.Nat.{mod-eq_of_lt, mod-eq-sub-mod}
+use Rattle.std.proofs.Common.{sym, ◌∙◌, arith, mod-eq_of_lt}
+use Rattle.std.proofs.Math.Nat.{mod-eq-sub-mod}
 use Rattle.rows.specs.Rows.{later}
-use Rattle.rows.proofs.seen.Goals as goal
+use Rattle.rows.proofs.Turn.seen.Goals as goal
 
 pub returns-then-j-n : goal.returns-then-j-n
 unfolding later
