@@ -185,7 +185,8 @@ module _ (t : Task) (good : Sound t) where
 pub none_paid : (t : Task) → Sound t → {f k v : ℕ} → (L t < 2) × (k < N t) → Paid t f k v → ⊥
 none_paid t good (l, h) z =
     let one : L t ≡ 1 = omega (arith, good.l1) in
-    omega (arith, rw one at z.gaps)
+    let none : z.c * (L t - 1) ≡ z.c * (1 - 1) = ap (λ i. z.c * (i - 1)) one in
+    omega (arith, none, z.gaps)
 
 -- at least c headers are paid: so much is left at most
 pub most_left : (t : Task) (f k c : ℕ) → ((d : ℕ) → k + (P t - f) ≤ d * P t → N t ≤ k + d * (L t - 1) → c ≤ d) → (v : ℕ) → Paid t f k v
