@@ -1,6 +1,6 @@
 -- The search over the starts. After the starts below u the best of them is known: no start does with fewer slots, none is
 -- worth more with as many, and none before it is worth as much. A start whose bound says that it cannot win leaves that so.
-use Rattle.std.specs.Prelude.{◌≡◌, refl, false, List, ◌⊎◌, ℕ, zero, suc, ◌+◌, ◌-◌, ◌*◌, ◌≤◌, ◌<◌, get_or, Option, Some, None}
+use Rattle.std.specs.Prelude.{◌≡◌, refl, false, List, ◌⊎◌, ℕ, zero, suc, ◌+◌, ◌-◌, ◌*◌, ◌≤◌, ◌<◌, get_or, Option, Some, None, is_some}
 use Rattle.std.proofs.Common.{sym, ap, ◌∙◌, subst, inl, inr, ⊎_elim, arith, below_more}
 use Rattle.std.proofs.lemmas.Option.{same_Some}
 use Rattle.laws.specs.Logic.{le_or_lt}
@@ -111,6 +111,24 @@ pub record Hopeless (t : Task) (f : ℕ) (b : Option Found) : Type 0 where
 abbrev pub Fewest : Task → ℕ → ℕ → Option ℕ → Type 0
 Fewest t f end None = Short t f end
 Fewest t f end (Some k) = Short t f k
+
+pub fewest_none : (t : Task) (f end : ℕ) (k : Option ℕ) → is_some k ≡ false → Fewest t f end k → Short t f end
+fewest_none t f end None e z = z
+fewest_none t f end (Some k) e z = absurd (cc)
+
+pub hopeless_none : (t : Task) (f : ℕ) (b : Option Found) → b ≡ None → Short t f (N t) → Hopeless t f b
+hopeless_none t f None e z = record { short = z; top = λ found q. absurd (cc) }
+hopeless_none t f (Some b) e z = absurd (cc)
+
+pub hopeless_some : (t : Task) (f : ℕ) (b : Option Found) (g : Found) → b ≡ Some g → Short t f g.count
+    → ((v : ℕ) → Paid t f g.count v → v < g.value) → Hopeless t f b
+hopeless_some t f None g e z top = absurd (cc)
+hopeless_some t f (Some b) g e z top =
+    let d = sym (same_Some b g e) in
+    record {
+      short = subst (λ b. Short t f b.count) d z;
+      top = λ found q. subst (λ b. (v : ℕ) → Paid t f b.count v → v < b.value) (d ∙ same_Some b found q) top;
+    }
 
 -- the first entry of a row, up to that of `cap` slots, that is above a number of words, if there is one
 abbrev pub FirstOver : List ℕ → ℕ → ℕ → Option ℕ → Type 0
