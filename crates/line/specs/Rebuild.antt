@@ -1,7 +1,7 @@
 -- One packet of the rebuilding. `left` is what is still to be added to the set; each packet moves its run of slots from
 -- there into the set, so that the set and what is left add up to the greedy choice at every step.
-use Rattle.std.specs.Prelude.{◌≡◌, refl, Bool, true, false, List, ◌⊎◌, ℕ, zero, suc, ◌+◌, ◌-◌, ◌*◌, ◌%◌, ◌^◌, ◌≤◌, ◌<◌, min, max, get_or, Option, Some, None}
-use Rattle.std.proofs.Common.{sym, ap, ◌∙◌, subst, inl, inr, arith, add-zero}
+use Rattle.std.specs.Prelude.{◌≡◌, refl, Bool, true, false, nat_eq, List, ◌⊎◌, ℕ, zero, suc, ◌+◌, ◌-◌, ◌*◌, ◌%◌, ◌^◌, ◌≤◌, ◌<◌, min, max, get_or, Option, Some, None}
+use Rattle.std.proofs.Common.{sym, ap, ◌∙◌, subst, inl, inr, arith, add-zero, eqb-true, false-eqb}
 use Rattle.laws.specs.Logic.{le_or_lt}
 use Rattle.line.specs.declared.Task.{Task}
 use Rattle.line.specs.Values.{N, S, P, raised, greedy}
@@ -49,6 +49,11 @@ pub data Goes (P f k J v : ℕ) : Bool → Type 0 where
   few : f ≤ P → Goes P f k J v false
   short : k ≤ P → Goes P f k J v false
   less : P < f → P < k → (J ≡ v → ⊥) → Goes P f k J v false
+
+-- the answer of the test, where the run is long enough and there are slots enough
+pub goes_if : (P f k J v w : ℕ) → P < f → P < k → w ≡ J → (b : Bool) → nat_eq w v ≡ b → Goes P f k J v b
+goes_if _ _ _ _ v w a b e true q = on a b (sym e ∙ eqb-true w v q)
+goes_if _ _ _ _ v w a b e false q = less a b (λ z. false-eqb w v (sym q) (e ∙ z))
 
 -- q is the longest packet of at most m slots that comes to v with the tail after it
 pub record Longest (t : Task) (p k m v : ℕ) (tl : List ℕ) (q : ℕ) : Type 0 where
@@ -298,21 +303,12 @@ run_end t s d m i h =
     let e : m - i ≡ 0 = omega arith in
     rw e
 
--- one standing more at which A holds, going down and going up
-pub above_more : (A : ℕ → Type 0) (q m : ℕ) → 0 < q → A q → ((j : ℕ) → q < j → j ≤ m → A j) → (j : ℕ) → q - 1 < j → j ≤ m → A j
-above_more A q m h a f j l r = go (le_or_lt j q)
+-- one standing more at which A holds, going down
+pub above_more : (A : ℕ → Type 0) (q m : ℕ) → 0 < q → A (q - 1) → ((j : ℕ) → q ≤ j → j ≤ m → A j) → (j : ℕ) → q - 1 ≤ j → j ≤ m → A j
+above_more A q m h a f j l r = go (le_or_lt q j)
   where
-    go : (j ≤ q) ⊎ (q < j) → A j
-    go (inl e) =
-        let c : j ≡ q = omega arith in
+    go : (q ≤ j) ⊎ (j < q) → A j
+    go (inl e) = f j e r
+    go (inr e) =
+        let c : j ≡ q - 1 = omega arith in
         rw c a
-    go (inr e) = f j e r
-
-pub between_more : (A : ℕ → Type 0) (from p : ℕ) → ((x : ℕ) → from ≤ x → x < p → A x) → A p → (x : ℕ) → from ≤ x → x < p + 1 → A x
-between_more A from p f a x l r = go (le_or_lt p x)
-  where
-    go : (p ≤ x) ⊎ (x < p) → A x
-    go (inl e) =
-        let c : x ≡ p = omega arith in
-        rw c a
-    go (inr e) = f x l e
