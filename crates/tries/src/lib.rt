@@ -30,12 +30,7 @@ fn improves(k: usize, v: u16, best: Option<Found>) -> bool
 }
 
 // The best of the starts so far with one more start taken into account.
-pub fn try_start(
-    tables: &mut Tables,
-    cut: Cut,
-    least: usize,
-    best: Option<Found>,
-) -> Option<Found>
+pub fn try_start(tables: &mut Tables, cut: Cut, least: usize, best: Option<Found>) -> Option<Found>
     requires { Short cut.task cut.task.wheel.p least × Sofar cut.task cut.start.0 best }
     ensures { Sofar cut.task (cut.start.0 + 1) result }
 {

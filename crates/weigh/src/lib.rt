@@ -25,7 +25,11 @@ fn first_cap(n: usize, least: usize, cap: usize) -> usize
     requires { cap < 64 }
     ensures { result ≤ cap }
 {
-    if cap + 1 < n { cap } else { cap.min(least.saturating_add(2)) }
+    if cap + 1 < n {
+        cap
+    } else {
+        cap.min(least.saturating_add(2))
+    }
 }
 
 // Fills the tables at the cut as far as they are needed, and says the fewest slots, up to `cap`,

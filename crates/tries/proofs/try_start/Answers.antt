@@ -13,10 +13,10 @@ returns-then-f-eq0 c =
     let cut = c.args.cut in
     let run = c.free_run-f.ensures.1 in
     elim c.then-f-eq0.branch [
-      then-f-eq0-via-then-f-eq0 w ↦
+      | then-f-eq0-via-then-f-eq0 w ↦
           let none : 0 ≡ 0 + c.free_run-f.result = omega arith in
           start_shut _ cut.task.sound _ _ c.requires.1 (ap (opens cut.task cut.start.0) none ∙ run.stop)
-    | then-f-eq0-via-else-f-eq0+then-hopeless w ↦
+      | then-f-eq0-via-else-f-eq0+then-hopeless w ↦
           start_hopeless _ cut.task.sound _ _ c.requires.1 _ (omega arith) run (w.hopeless.ensures w.if-hopeless.true)
     ]
 
