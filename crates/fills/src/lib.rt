@@ -11,7 +11,7 @@ pub fn lift(row: &mut [u16], heads: &[u16], tails: &[u16])
     ensures { Lifted row.new heads.now tails.now }
 {
     for i in 0..row.len() {
-        row[i] = heads[i].max(tails[i]);
+        row[i] = positions::better(heads[i], tails[i]);
     }
 }
 
@@ -22,6 +22,6 @@ pub fn raise(row: &mut [u16], values: &[u16], words: u16)
     ensures { Raised row.old row.new values.now words }
 {
     for i in 0..row.len() {
-        row[i] = positions::better(row[i], words, values[i]);
+        row[i] = positions::better(row[i], positions::raised(words, values[i]));
     }
 }

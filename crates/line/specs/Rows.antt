@@ -31,35 +31,11 @@ Lifted new hd tl = (i : ℕ) → i < length new → get_or new i 0 ≡ max (get_
 abbrev pub Raised : List ℕ → List ℕ → List ℕ → ℕ → Type 0
 Raised old new vs words = (i : ℕ) → i < length new → get_or new i 0 ≡ max (get_or old i 0) (raised words (get_or vs i 0))
 
-pub filled_none : (old : List ℕ) (base : ℕ) (e : ℕ → ℕ) → Filled old old base 0 e
-filled_none old base e = record { row = λ i h. absurd (omega arith); below = λ i h. refl; above = λ i h. refl; long = refl }
-
-pub filled_more : (old new : List ℕ) (base j v : ℕ) (e : ℕ → ℕ) → Filled old new base j e → base + j < length old
-    → v ≡ e j → Filled old (set new (base + j) v) base (j + 1) e
-filled_more old new base j v e h b q =
-    record {
-      row = λ i d. row i (eq-or-lt_of_le d);
-      below = λ i d. get_or-set_other new (base + j) i v 0 (omega arith) ∙ h.below i d;
-      above = λ i d. get_or-set_other new (base + j) i v 0 (omega arith) ∙ h.above i (omega arith);
-      long = simp length-set h.long;
-    }
-  where
-    row : (i : ℕ) → (suc i ≡ j + 1) ⊎ (suc i < j + 1) → get_or (set new (base + j) v) (base + i) 0 ≡ e i
-    row i (inl d) =
-        let c : i ≡ j = omega arith in
-        rw c (get_or-set_same new (base + j) v 0 (omega (arith, h.long)) ∙ q)
-    row i (inr d) = get_or-set_other new (base + j) (base + i) v 0 (omega arith) ∙ h.row i (omega arith)
-
 -- the entries under another name
 pub filled_as : (old new : List ℕ) (base j : ℕ) (d e : ℕ → ℕ) → Filled old new base j d → ((i : ℕ) → i < j → d i ≡ e i) → Filled old new base j e
 filled_as old new base j d e h q = record { row = λ i l. h.row i l ∙ q i l; below = h.below; above = h.above; long = h.long }
 
--- the same row a second time
-pub filled_then : (old mid new : List ℕ) (base j : ℕ) (d e : ℕ → ℕ) → Filled old mid base j d → Filled mid new base j e → Filled old new base j e
-filled_then old mid new base j d e a b =
-    record { row = b.row; below = λ i l. b.below i l ∙ a.below i l; above = λ i l. b.above i l ∙ a.above i l; long = b.long ∙ a.long }
-
--- and from its entry q on
+-- the same row a second time, from its entry q on
 pub filled_again : (old mid new : List ℕ) (base j q : ℕ) (d e g : ℕ → ℕ) → q ≤ j → Filled old mid base j d
     → Filled mid new (base + q) (j - q) e → ((i : ℕ) → i < q → d i ≡ g i) → ((i : ℕ) → i < j - q → e i ≡ g (q + i)) → Filled old new base j g
 filled_again old mid new base j q d e g h a b low high =

@@ -9,20 +9,19 @@ ghost use Rattle.line.specs.Tables.{FreeRun};
 
 use line::{Cut, Task};
 
+// The better of two values: every choice that the tables make is made here.
+pub fn better(a: u16, b: u16) -> u16
+    ensures { result ≡ max a b }
+{
+    a.max(b)
+}
+
 // The value v with `words` more on top of it.
 pub fn raised(words: u16, v: u16) -> u16
     requires { words + v < 65536 }
     ensures { result ≡ raised words v }
 {
     if v == 0 { 0 } else { words + v }
-}
-
-// The better of the value `best` and the value v with `words` more on top of it.
-pub fn better(best: u16, words: u16, v: u16) -> u16
-    requires { words + v < 65536 }
-    ensures { result ≡ max best (raised words v) }
-{
-    best.max(raised(words, v))
 }
 
 // The words of a packet of q slots.

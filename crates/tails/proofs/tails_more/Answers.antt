@@ -16,4 +16,4 @@ returns-then-e-n c =
     (λ k h. part_entry _ _ _ k (omega arith)) (λ k h. get_or-take _ _ k 0 h ∙ split.by_index.1 k 0)))
 
 pub returns : goal.returns
-returns c = tails_near _ _ _ _ _ _ (omega arith) c.args.task.sound.l1 _ c.min-end.ensures c.window.ensures
+returns c = tails_near _ _ _ _ _ _ (omega arith) c.args.task.sound.l1 _ (omega (arith, c.min-end.ensures)) c.window.ensures
