@@ -3,7 +3,6 @@
 use Rattle.std.specs.Prelude.{◌≡◌, refl, Bool, true, false, ◌⊎◌, ℕ, ◌+◌, ◌-◌, ◌≤◌, ◌<◌, min, Some, None}
 use Rattle.std.proofs.Common.{sym, ap, ◌∙◌, inl, inr, arith}
 use Rattle.rules.specs.declared.Wheel.{Wheel}
-use Rattle.rules.specs.declared.Words.{Words}
 use Rattle.rules.specs.declared.Grant.{Grant}
 use Rattle.rules.specs.Sets.{has, Within, Below}
 use Rattle.rules.specs.Wheels.{Legal, chosen, size, full, words}
@@ -16,7 +15,6 @@ use Rattle.laws.specs.Runs.{full_each}
 use Rattle.laws.specs.Gaps.{gap_most}
 use Rattle.line.specs.declared.Task.{Task}
 use Rattle.line.specs.Values.{N, L}
-use Rattle.line.specs.Asked.{Asked}
 use Rattle.optimum.specs.declared.Found.{Found}
 use Rattle.optimum.specs.Starts.{has_smallest, size_full, size_less}
 use Rattle.optimum.specs.Rival.{rival_worth}
@@ -30,19 +28,6 @@ pub record Meetable (w : Wheel) (free W L : ℕ) : Type 0 where
   pub some : 1 ≤ W
   pub l1 : 1 ≤ L
   pub meets : Meets w W L free
-
--- the search for one, with L cut at N, is sound
-pub asked : (w : Wheel) (free : ℕ) (words : Words) (limit l : ℕ) → l ≡ min limit w.n → Meetable w free words.0 limit → 2 ≤ w.n
-    → Asked w free words l
-asked w free words limit l el a two =
-    record {
-      legal = a.legal;
-      two = two;
-      some = a.some;
-      l1 = omega (arith, a.l1);
-      l64 = omega (arith, a.legal.n64);
-      fit = a.fit;
-    }
 
 -- ---- only the full wheel is left
 

@@ -140,14 +140,7 @@ abbrev pub Weighed : Task → ℕ → ℕ → List ℕ → List ℕ → Option �
 Weighed t u cap hd tl None = FirstOver hd cap t.words.0 None × Solved t u cap hd tl
 Weighed t u cap hd tl (Some k) = FirstOver hd cap t.words.0 (Some k) × Solved t u k hd tl
 
--- tables up to `near` do if they hold such a number
-pub weighed_some : (t : Task) (u cap near : ℕ) (hd tl : List ℕ) (k : Option ℕ) (i : ℕ) → near ≤ cap → Solved t u near hd tl
-    → FirstOver hd near t.words.0 k → k ≡ Some i → Weighed t u cap hd tl k
-weighed_some t u cap near hd tl None i nc solved first e = absurd (cc)
-weighed_some t u cap near hd tl (Some k) i nc solved (range, low, enough) e =
-    ((omega arith, low, enough), solved_fewer _ _ _ _ _ _ range solved)
-
--- or if `near` is the cap
+-- tables up to the cap do
 pub weighed_all : (t : Task) (u cap : ℕ) (hd tl : List ℕ) (k : Option ℕ) → Solved t u cap hd tl → FirstOver hd cap t.words.0 k
     → Weighed t u cap hd tl k
 weighed_all t u cap hd tl None solved first = (first, solved)
