@@ -1,7 +1,7 @@
 -- From parts of an order to the whole: what refuses a part refuses the whole behind the parts that passed, and what settles
 -- the last part settles the whole; and behind the tests of an opening bare selection decides what is left.
-use Rattle.std.specs.Prelude.{◌≡◌, List, ◌⊎◌, ℕ, ◌≤◌, Result, Ok, Err}
-use Rattle.std.proofs.Common.{inl, inr, arith}
+use Rattle.std.specs.Prelude.{◌≡◌, List, ◌⊎◌, ℕ, ◌≤◌, ◌<◌, Result, Ok, Err}
+use Rattle.std.proofs.Common.{subst, inl, inr, arith}
 use Rattle.rules.specs.declared.Demand.{Demand}
 use Rattle.rules.specs.declared.Record.{Record}
 use Rattle.rules.specs.declared.Grant.{Grant}
@@ -14,10 +14,12 @@ use Rattle.rules.specs.declared.Refusal.{Refusal}
 use Rattle.rules.specs.Wheels.{Legal}
 use Rattle.rules.specs.Paths.{Chip, allowed, free_slots}
 use Rattle.rules.specs.Numbers.{number, Line, ◌then◌, Refuses, Passes}
-use Rattle.rules.specs.Orders.{checked, asked_lines, room_lines, way_lines, flow_lines, state_lines, order_of}
+use Rattle.rules.specs.Orders.{Tabled, checked, asked_lines, room_lines, path_lines, way_lines, flow_lines, state_lines, order_of}
 use Rattle.rules.specs.Promises.{Selects}
-use Rattle.laws.specs.Refusals.{ahead, behind, past, passes_then}
+use Rattle.laws.specs.Refusals.{passed, ahead, behind, past, passes_then}
 use Rattle.ledger.specs.Claims.{free_below}
+use Rattle.ledger.specs.Lines.{inside_stable}
+use Rattle.table.specs.Along.{Walkable}
 use Rattle.decide.specs.Decisions.{Settles, Decides}
 
 pub neither_of : {P Q : Type 0} → ¬ P → ¬ Q → ¬ (P ⊎ Q)
@@ -52,6 +54,23 @@ module _ (chip : Chip) (t : List ℕ) (n : ℕ) (disagree : Type 0) (r : Record)
       settled_behind flow (Err q) d =
           behind (checked chip t n disagree) _ (number q) gate
           (behind (way_lines chip call v) _ (number q) way (behind (flow_lines n call.flow) _ (number q) flow d))
+
+-- a path that an opening may have can be walked on a table
+pub way_walkable : (chip : Chip) (t : List ℕ) (call : Call) (v : Verb) (d : Demand) → v ≡ ToOpen d → Passes (way_lines chip call v)
+    → Tabled chip.channels t → Walkable chip t call.path.entries call.path.len
+way_walkable chip t call v d e p tabled = go (subst (λ v. Passes (way_lines chip call v)) e p)
+  where
+    few : ¬ (16 < call.path.len) → call.path.len ≤ 16
+    few h = omega (arith, h)
+
+    go : Passes (path_lines chip call.path.entries call.path.len) → Walkable chip t call.path.entries call.path.len
+    go p =
+        let line : (k : ℕ) → _ = λ k. passed (path_lines chip call.path.entries call.path.len) k p in
+        record {
+          fits = few (λ l. line 5 (inr l));
+          rows = tabled.long;
+          inside = inside_stable chip call.path.entries call.path.len (line 6);
+        }
 
 -- ---- bare selection decides what is left behind the lines xs: of its own refusals only 13 and 14 can come
 

@@ -1,5 +1,6 @@
 -- Each of the four is one test; a refusal has passed those before it.
 use Rattle.std.proofs.Common.{arith}
+use Rattle.rules.specs.Orders.{Listed}
 use Rattle.laws.specs.Refusals.{first, none_before}
 use Rattle.decide.specs.Decisions.{Gates}
 use Rattle.decide.proofs.Passed.{order, p2, p3, p4, held_told}
@@ -24,7 +25,7 @@ returns-then-n-lt1 c =
 
 pub returns : goal.returns
 returns c =
-    let listed = record { some = omega arith; most = omega arith } in
+    let listed : Listed c.args.n = record { some = omega arith; most = omega arith } in
     rw c.ok_or.ensures.value
     (held_told c.args.chip c.args.table.now c.args.n c.args.held
     (p4 c.args.chip c.args.table.now c.args.n c.args.held (c.legal.ensures.yes c.if-not-legal.false) (c.is_table.ensures.yes c.if-not-is_table.false) listed))
