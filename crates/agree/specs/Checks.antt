@@ -56,7 +56,3 @@ module _ (chip : Chip) (t : List ℕ) (list : List Record) where
 
     pub checks_stray : (held : ℕ) → Checks chip t list n held → ¬ (used_cells t ≡ held) → ¬ Agrees chip t n list
     checks_stray held c u a = u ((agree_counted chip t n list a.ready.legal a.ready.tabled a.agree).total ∙ sym c.total)
-
-    -- a record that is not in order agrees with no table
-    pub not_ordered : (f : ℕ) → f < n → ¬ Ordered chip t f (flow list f) → ¬ Agrees chip t n list
-    not_ordered f l broken a = broken (record { own = a.agree.own f l; held = λ x j h. a.agree.held f x j l h })

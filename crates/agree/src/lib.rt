@@ -50,7 +50,8 @@ pub fn held<T: FlowList>(table: &[u8], list: &[T], chip: Chip) -> Option<usize>
     for f in 0..n {
         held += claimed(table, chip, T::record(list, f), f)?;
     }
-    if table::count_used(table) == held {
+    let settled = table::count_used(table) == held;
+    if settled {
         Some(held)
     } else {
         None

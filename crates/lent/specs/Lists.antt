@@ -1,7 +1,9 @@
--- What is asked of a form of the list, and that lists of records are one.
-use Rattle.std.specs.Prelude.{◌≡◌, refl, List, ℕ, ◌≤◌, ◌<◌, length, set}
-use Rattle.std.proofs.Common.{ap, ◌∙◌, length-set}
+-- What is asked of a form of the list, and that lists of records and lists of bytes are forms.
+use Rattle.std.specs.Prelude.{◌≡◌, List, ℕ, ◌+◌, ◌*◌, ◌≤◌, ◌<◌, length, set}
+use Rattle.std.proofs.Common.{ap, ◌∙◌, arith, length-set}
 use Rattle.rules.specs.declared.Record.{Record}
+use Rattle.bytes_list.specs.Layout.{count_of, list_in, Written}
+use Rattle.bytes_list.specs.ReadBack.{count_room, count_same, list_written}
 
 -- what a record of the list may be: it has the sixteen entries of its type, no more than these in use, and a set of 64 slots
 pub record Fitting (r : Record) : Type 0 where
@@ -21,3 +23,15 @@ PutRecord l i r m = m ≡ set l i r
 
 pub record_form : Form length (λ l. l) PutRecord
 record_form = record { put = λ l i r m h fits e. (ap length e ∙ length-set l i r, e) }
+
+-- ---- lists of bytes, 64 for each record
+
+abbrev pub PutBytes : List ℕ → ℕ → Record → List ℕ → Type 0
+PutBytes b i r b' = Written b (64 * i) r b'
+
+pub bytes_form : Form count_of list_in PutBytes
+bytes_form = record { put = λ b i r b' h fits w. (count_same b b' w.long, list_written b i r b' w h fits.long fits.slots) }
+
+-- there is room for each record
+pub record_room : (b : List ℕ) (i : ℕ) → i < count_of b → 64 * i + 64 ≤ length b
+record_room b i h = omega (arith, count_room b)

@@ -5,7 +5,8 @@
 ghost use Rattle.std.specs.Prelude.{◌≡◌, List, ℕ, ◌<◌, length};
 ghost use Rattle.rules.specs.declared.Record.{Record};
 ghost use Rattle.rules.specs.Flows.{flow};
-ghost use Rattle.lent.specs.Lists.{Fitting, Form, PutRecord, record_form};
+ghost use Rattle.bytes_list.specs.Layout.{count_of, list_in};
+ghost use Rattle.lent.specs.Lists.{Fitting, Form, PutRecord, record_form, PutBytes, bytes_form};
 
 use rules::Record;
 
@@ -56,5 +57,29 @@ impl FlowList for Record {
 
     fn put(list: &mut [Record], i: usize, r: Record) {
         list[i] = r;
+    }
+}
+
+// A list of records as bytes, 64 for each.
+impl FlowList for u8 {
+    ghost count = { count_of };
+
+    ghost records = { list_in };
+
+    ghost Put = { PutBytes };
+
+    ghost form = { bytes_form };
+
+    fn count(list: &[u8]) -> usize {
+        bytes_list::count_of(list)
+    }
+
+    #[tactic(auto, using(bytes_list::specs::ReadBack::flow_decoded))]
+    fn record(list: &[u8], i: usize) -> Record {
+        bytes_list::record_at(list, 64 * i)
+    }
+
+    fn put(list: &mut [u8], i: usize, r: Record) {
+        bytes_list::write_record(list, 64 * i, r);
     }
 }

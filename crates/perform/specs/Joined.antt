@@ -1,5 +1,5 @@
 -- From one record to the list: `agreed` tells whether table and list agree, and r is the flow's record.
-use Rattle.std.specs.Prelude.{◌≡◌, Bool, true, false, List, ◌⊎◌, ℕ, ◌+◌, ◌-◌, ◌*◌, ◌≤◌, ◌<◌, length, set, Result, Ok, Err}
+use Rattle.std.specs.Prelude.{◌≡◌, Bool, true, false, List, ◌⊎◌, ℕ, ◌+◌, ◌-◌, ◌*◌, ◌≤◌, ◌<◌, length, set, Option, is_some, IfSome, Result, Ok, Err}
 use Rattle.std.proofs.Common.{refl, sym, ap, ◌∙◌, subst, inl, inr, arith}
 use Rattle.rules.specs.Tells.{Tells}
 use Rattle.rules.specs.declared.Demand.{Demand}
@@ -31,7 +31,7 @@ use Rattle.ledger.specs.Lines.{checked_ready, named, saw}
 use Rattle.ledger.specs.Calls.{order_alike, to_opened, to_cleared}
 use Rattle.table.specs.Along.{Walkable, own_walkable}
 use Rattle.lent.specs.Lists.{Fitting, Form}
-use Rattle.decide.specs.Decisions.{Settles, Decides}
+use Rattle.decide.specs.Decisions.{Gates, Settles, Decides}
 use Rattle.perform.specs.Performed.{RecordOf, Leaves, PerformsOn}
 
 -- ---- the record of the flow
@@ -75,11 +75,11 @@ granted_small chip t path m W L g h grants =
 module _ (chip : Chip) (t : List ℕ) (n : ℕ) (agreed : Bool) (r : Record) (call : Call) (own : agreed ≡ true → Own chip r.state r) where
   pub writable : (v : Verb) (y : Yes) → Passes (order_of chip t n (agreed ≡ false) r.state call v) → Told chip t r call v y
       → Writable chip t (change r call v y)
+  unfolding open_record
   writable v y p told = go v y p told (checked_ready chip t n _ (passes_front (checked chip t n (agreed ≡ false)) _ p))
     where
       go : (v : Verb) (y : Yes) → Passes (order_of chip t n (agreed ≡ false) r.state call v) → Told chip t r call v y → Ready chip t n
           → Writable chip t (change r call v y)
-      unfolding open_record
       go (ToOpen d) (yes.Granted g) p told ready =
           let admitted = saw chip t n _ _ call d p in
           record {
@@ -168,46 +168,87 @@ module _ (chip : Chip) (t : List ℕ) (n : ℕ) (list : List Record) (agreed : B
       unfolding Settles
       performed t' list' marks put = (passes_alike _ _ alike d.0, rw (← is) d.1, rw (← is) marks, put ∙ rw is)
 
--- ---- over a list in any form
+-- ---- over a list in any form, n being its count
 
 module _ {A : Type 0} (count : List A → ℕ) (records : List A → List Record) (Put : List A → ℕ → Record → List A → Type 0)
     (form : Form count records Put) (chip : Chip) (t : List ℕ) (l : List A) (agreed : Bool)
-    (tells : Tells agreed (Agrees chip t (count l) (records l))) (r : Record) (call : Call) (same : RecordOf (records l) (count l) call.flow r) where
-  pub performs_not : (q : Refusal) → Decides chip t (count l) (agreed ≡ false) r call call.verb (Err q)
-      → PerformsOn count records Put chip t l call t l (Err q)
-  performs_not q d = record { answers = (refused chip t (count l) (records l) agreed tells r call same q d, refl, refl); list = refl }
+    (tells : Tells agreed (Agrees chip t (count l) (records l))) (r : Record) (call : Call) (same : RecordOf (records l) (count l) call.flow r)
+    (n : ℕ) (n-is : n ≡ count l) where
+  pub performs_not : (q : Refusal) → Decides chip t n (agreed ≡ false) r call call.verb (Err q) → PerformsOn count records Put chip t l call t l (Err q)
+  performs_not q d =
+      let here = subst (λ m. Decides chip t m (agreed ≡ false) r call call.verb (Err q)) n-is d in
+      record { answers = (refused chip t (count l) (records l) agreed tells r call same q here, refl, refl); list = refl }
 
-  pub performs_yes : (y : Yes) → Decides chip t (count l) (agreed ≡ false) r call call.verb (Ok y) → (c : Change) → c ≡ change r call call.verb y
-      → (t' : List ℕ) (l' : List A) → Marked chip c t t' → Put l (call.flow - 1) c.new l' → PerformsOn count records Put chip t l call t' l' (Ok y)
-  performs_yes y d c made t' l' marks put = go (subst (λ x. Marked chip x t t') made marks) (subst (λ x. Put l (call.flow - 1) x.new l') made put)
-    where
-      there : (1 ≤ call.flow) × (call.flow ≤ count l)
-      there = listed chip t (count l) (records l) agreed tells r call same y d
+  module _ (y : Yes) (d : Decides chip t n (agreed ≡ false) r call call.verb (Ok y)) (c : Change) (made : c ≡ change r call call.verb y) where
+    here : Decides chip t (count l) (agreed ≡ false) r call call.verb (Ok y)
+    here = subst (λ m. Decides chip t m (agreed ≡ false) r call call.verb (Ok y)) n-is d
 
-      at : r ≡ flow (records l) (call.flow - 1)
-      at = is chip t (count l) (records l) agreed tells r call same y d
+    there : (1 ≤ call.flow) × (call.flow ≤ count l)
+    there = listed chip t (count l) (records l) agreed tells r call same y here
 
-      go : Marked chip (change r call call.verb y) t t' → Put l (call.flow - 1) (change r call call.verb y).new l'
-          → PerformsOn count records Put chip t l call t' l' (Ok y)
-      go marks put =
-          let kept = form.put l (call.flow - 1) _ l' (omega (arith, there.0, there.1)) (written chip t (count l) (records l) agreed tells r call same y d).fits put in
-          record {
-            answers = performed chip t (count l) (records l) agreed tells r call same y d t' (records l') marks kept.1;
-            list = subst (λ x. Put l (call.flow - 1) (change x call call.verb y).new l') at put;
-          }
+    -- the flow has its place, and what is written fits
+    pub flow_one : 1 ≤ call.flow
+    flow_one = there.0
 
--- ---- a call's answer in the words of an opening, and of a closing
+    pub flow_inside : call.flow - 1 < count l
+    flow_inside = omega (arith, there.0, there.1)
+
+    pub change_written : Writable chip t c
+    change_written = subst (Writable chip t) (sym made) (written chip t (count l) (records l) agreed tells r call same y here)
+
+    pub performs_yes : (t' : List ℕ) (l' : List A) → Marked chip c t t' → Put l (call.flow - 1) c.new l' → PerformsOn count records Put chip t l call t' l' (Ok y)
+    performs_yes t' l' marks put = go (subst (λ x. Marked chip x t t') made marks) (subst (λ x. Put l (call.flow - 1) x.new l') made put)
+      where
+        at : r ≡ flow (records l) (call.flow - 1)
+        at = is chip t (count l) (records l) agreed tells r call same y here
+
+        go : Marked chip (change r call call.verb y) t t' → Put l (call.flow - 1) (change r call call.verb y).new l'
+            → PerformsOn count records Put chip t l call t' l' (Ok y)
+        go marks put =
+            let fits = (written chip t (count l) (records l) agreed tells r call same y here).fits in
+            let kept = form.put l (call.flow - 1) _ l' flow_inside fits put in
+            record {
+              answers = performed chip t (count l) (records l) agreed tells r call same y here t' (records l') marks kept.1;
+              list = subst (λ x. Put l (call.flow - 1) (change x call call.verb y).new l') at put;
+            }
+
+-- what `enter` hands on is what the flows hold
+pub entered : (chip : Chip) (t : List ℕ) (n : ℕ) (list : List Record) (held : Option ℕ) → IfSome held (λ k. k ≡ held_cells chip.wheel n list)
+    → (k : ℕ) → Gates chip t n held (Ok k) → Passes (checked chip t n (is_some held ≡ false)) × (k ≡ held_cells chip.wheel n list)
+unfolding Gates
+entered chip t n list held known k g = (g.0, subst (λ o. IfSome o (λ k. k ≡ held_cells chip.wheel n list)) g.1 known)
+
+-- ---- opening and closing: the chip is made from wheel and table, the call from what was asked, and the answer is told in
+-- their words
 
 module _ {A : Type 0} (count : List A → ℕ) (records : List A → List Record) (Put : List A → ℕ → Record → List A → Type 0)
-    (chip : Chip) (t : List ℕ) (l : List A) (t' : List ℕ) (l' : List A) where
-  pub as_opened : (path : List ℕ) (m f : ℕ) (d : Demand) (a : Result Yes Refusal) → PerformsOn count records Put chip t l (opening path m f d) t' l' a
-      → PerformsOn count records Put chip t l (opening path m f d) t' l' (of_opened (to_opened a))
-  as_opened path m f d (Ok (yes.Granted g)) p = p
-  as_opened path m f d (Ok (yes.Cells k)) p = absurd p.answers.1
-  as_opened path m f d (Err q) p = p
+    (t : List ℕ) (l : List A) (t' : List ℕ) (l' : List A) (chip made : Chip) (made-is : made ≡ chip) (call asked : Call) (asked-is : call ≡ asked)
+    (a : Result Yes Refusal) (p : PerformsOn count records Put made t l call t' l' a) where
+  done : PerformsOn count records Put chip t l asked t' l' a
+  done =
+      subst (λ x. PerformsOn count records Put x t l asked t' l' a) made-is
+      (subst (λ x. PerformsOn count records Put made t l x t' l' a) asked-is p)
 
-  pub as_cleared : (f : ℕ) (a : Result Yes Refusal) → PerformsOn count records Put chip t l (closing f) t' l' a
-      → PerformsOn count records Put chip t l (closing f) t' l' (of_cleared (to_cleared a))
-  as_cleared f (Ok (yes.Granted g)) p = absurd p.answers.1
-  as_cleared f (Ok (yes.Cells k)) p = p
-  as_cleared f (Err q) p = p
+  pub as_opened : (path : List ℕ) (m f : ℕ) (d : Demand) → asked ≡ opening path m f d → (o : Result Grant Refusal) → o ≡ to_opened a
+      → PerformsOn count records Put chip t l (opening path m f d) t' l' (of_opened o)
+  as_opened path m f d e o told =
+      subst (λ x. PerformsOn count records Put chip t l (opening path m f d) t' l' (of_opened x)) (sym told)
+      (go a (subst (λ x. PerformsOn count records Put chip t l x t' l' a) e done))
+    where
+      go : (a : Result Yes Refusal) → PerformsOn count records Put chip t l (opening path m f d) t' l' a
+          → PerformsOn count records Put chip t l (opening path m f d) t' l' (of_opened (to_opened a))
+      go (Ok (yes.Granted g)) p = p
+      go (Ok (yes.Cells k)) p = absurd p.answers.1
+      go (Err q) p = p
+
+  pub as_cleared : (f : ℕ) → asked ≡ closing f → (o : Result ℕ Refusal) → o ≡ to_cleared a
+      → PerformsOn count records Put chip t l (closing f) t' l' (of_cleared o)
+  as_cleared f e o told =
+      subst (λ x. PerformsOn count records Put chip t l (closing f) t' l' (of_cleared x)) (sym told)
+      (go a (subst (λ x. PerformsOn count records Put chip t l x t' l' a) e done))
+    where
+      go : (a : Result Yes Refusal) → PerformsOn count records Put chip t l (closing f) t' l' a
+          → PerformsOn count records Put chip t l (closing f) t' l' (of_cleared (to_cleared a))
+      go (Ok (yes.Granted g)) p = absurd p.answers.1
+      go (Ok (yes.Cells k)) p = p
+      go (Err q) p = p

@@ -81,7 +81,7 @@ pub fn report<T: FlowList>(table: &[u8], list: &[T], w: Wheel) -> Result<Totals,
     let chip = table::chip_of(table, w);
     let counted = agree::held(table, list, chip);
     let held = decide::enter(table, chip, T::count(list), counted)?;
-    let cells = chip.channels * w.n;
+    let cells = chip.channels * chip.wheel.n;
     Ok(Totals {
         free: cells - held,
         held,
