@@ -1,6 +1,6 @@
 -- What the check of a list finds, record by record. A record is in order if it obeys its own rules and each cell that it
 -- claims holds its number; if all are, and as many cells of the table are used as they claim, table and list agree.
-use Rattle.std.specs.Prelude.{◌≡◌, true, List, ℕ, suc, ◌+◌, ◌*◌, ◌≤◌, ◌<◌}
+use Rattle.std.specs.Prelude.{◌≡◌, true, List, ℕ, ◌+◌, ◌*◌, ◌≤◌, ◌<◌}
 use Rattle.std.proofs.Common.{refl, sym, ap, ◌∙◌, arith, below_more}
 use Rattle.rules.specs.declared.Record.{Record}
 use Rattle.rules.specs.Sets.{sum}

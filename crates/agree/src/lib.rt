@@ -51,9 +51,5 @@ pub fn held<T: FlowList>(table: &[u8], list: &[T], chip: Chip) -> Option<usize>
         held += claimed(table, chip, T::record(list, f), f)?;
     }
     let settled = table::count_used(table) == held;
-    if settled {
-        Some(held)
-    } else {
-        None
-    }
+    if settled { Some(held) } else { None }
 }

@@ -42,20 +42,12 @@ pub fn open(
     ensures { OpensBytes (chip_of w table.old) table.old list.old path len flow demand
         table.new list.new result }
 {
-    let path = Path {
-        entries: path,
-        len,
-    };
+    let path = Path { entries: path, len };
     perform::open(table, list, w, flow, path, demand)
 }
 
 // Closes a flow.
-pub fn close(
-    table: &mut [u8],
-    list: &mut [u8],
-    w: Wheel,
-    flow: usize,
-) -> Result<usize, Refusal>
+pub fn close(table: &mut [u8], list: &mut [u8], w: Wheel, flow: usize) -> Result<usize, Refusal>
     ensures { ClosesBytes (chip_of w table.old) table.old list.old flow table.new list.new result }
 {
     perform::close(table, list, w, flow)

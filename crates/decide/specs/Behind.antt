@@ -48,9 +48,11 @@ module _ (chip : Chip) (t : List ℕ) (n : ℕ) (disagree : Type 0) (r : Record)
       pub settled_behind : Passes (flow_lines n call.flow) → (a : Result Yes Refusal)
           → Settles (state_lines chip t r.state call v) chip t r call v a → Decides chip t n disagree r call v a
       unfolding Settles
-      settled_behind flow (Ok y) d =
-          (passes_then (checked chip t n disagree) _ gate
-          (passes_then (way_lines chip call v) _ way (passes_then (flow_lines n call.flow) _ flow d.0)), d.1)
+      settled_behind flow (Ok y) d = (
+        passes_then (checked chip t n disagree) _ gate
+            (passes_then (way_lines chip call v) _ way (passes_then (flow_lines n call.flow) _ flow d.0)),
+        d.1,
+      )
       settled_behind flow (Err q) d =
           behind (checked chip t n disagree) _ (number q) gate
           (behind (way_lines chip call v) _ (number q) way (behind (flow_lines n call.flow) _ (number q) flow d))

@@ -79,7 +79,13 @@ fn pass_flow(flow: usize, n: usize) -> Result<(), Refusal>
 }
 
 // Decides on opening a flow in this state: 9, 11, 12, and then selection among the free slots of the path.
-fn decide_opening(table: &[u8], chip: Chip, r: Record, call: Call, demand: Demand) -> Result<Yes, Refusal>
+fn decide_opening(
+    table: &[u8],
+    chip: Chip,
+    r: Record,
+    call: Call,
+    demand: Demand,
+) -> Result<Yes, Refusal>
     requires legal { Legal chip.wheel }
     requires walkable { Walkable chip table.now call.path.entries call.path.len }
     ensures { Settles (state_lines chip table.now r.state call (ToOpen demand)) chip table.now r call (ToOpen demand) result }
@@ -113,7 +119,14 @@ fn decide_closing(chip: Chip, r: Record) -> Result<Yes, Refusal>
 }
 
 // Decides on a call on the flow whose record is r: 1 to 4, then what is its own.
-pub fn decide(table: &[u8], chip: Chip, n: usize, held: Option<usize>, r: Record, call: Call) -> Result<Yes, Refusal>
+pub fn decide(
+    table: &[u8],
+    chip: Chip,
+    n: usize,
+    held: Option<usize>,
+    r: Record,
+    call: Call,
+) -> Result<Yes, Refusal>
     requires { is_some held ≡ true → Own chip r.state r }
     ensures { Decides chip table.now n (is_some held ≡ false) r call call.verb result }
 {

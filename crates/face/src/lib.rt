@@ -47,7 +47,7 @@ fn number_of(no: Refusal) -> u64
 
 // An answer: 0, and its values in the array; or the number of a no, and the array as it is.
 fn tell<const N: usize>(a: Result<[u64; N], Refusal>, values: &mut [u64; N]) -> u64
-    ensures { Told a result values.old values.new }
+    ensures { Told a.entry result values.old values.new }
 {
     match a {
         Ok(v) => {

@@ -1,11 +1,10 @@
 -- From one record to the list: `agreed` tells whether table and list agree, and r is the flow's record.
-use Rattle.std.specs.Prelude.{◌≡◌, Bool, true, false, List, ◌⊎◌, ℕ, ◌+◌, ◌-◌, ◌*◌, ◌≤◌, ◌<◌, length, set, Option, is_some, IfSome, Result, Ok, Err}
+use Rattle.std.specs.Prelude.{◌≡◌, Bool, true, false, List, ◌⊎◌, ℕ, ◌-◌, ◌*◌, ◌≤◌, ◌<◌, set, Option, is_some, IfSome, Result, Ok, Err}
 use Rattle.std.proofs.Common.{refl, sym, ap, ◌∙◌, subst, inl, inr, arith}
 use Rattle.rules.specs.Tells.{Tells}
 use Rattle.rules.specs.declared.Demand.{Demand}
 use Rattle.rules.specs.declared.Record.{Record}
 use Rattle.rules.specs.declared.Grant.{Grant}
-use Rattle.rules.specs.declared.Totals.{Totals}
 use Rattle.rules.specs.declared.Change.{Change}
 use Rattle.rules.specs.declared.Call.{Call}
 use Rattle.rules.specs.declared.Verb.{Verb}
@@ -32,7 +31,7 @@ use Rattle.ledger.specs.Calls.{order_alike, to_opened, to_cleared}
 use Rattle.table.specs.Along.{Walkable, own_walkable}
 use Rattle.lent.specs.Lists.{Fitting, Form}
 use Rattle.decide.specs.Decisions.{Gates, Settles, Decides}
-use Rattle.perform.specs.Performed.{RecordOf, Leaves, PerformsOn}
+use Rattle.perform.specs.Performed.{RecordOf, PerformsOn}
 
 -- ---- the record of the flow
 

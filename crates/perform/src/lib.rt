@@ -27,7 +27,12 @@ fn flow_record<T: FlowList>(list: &[T], flow: usize) -> Record
 }
 
 // Performs a call.
-pub fn perform<T: FlowList>(table: &mut [u8], list: &mut [T], chip: Chip, call: Call) -> Result<Yes, Refusal>
+pub fn perform<T: FlowList>(
+    table: &mut [u8],
+    list: &mut [T],
+    chip: Chip,
+    call: Call,
+) -> Result<Yes, Refusal>
     ensures { PerformsOn T.count T.records T.Put chip table.old list.old call table.new list.new result }
 {
     let held = agree::held(table, list, chip);
@@ -57,7 +62,12 @@ pub fn open<T: FlowList>(
 }
 
 // Closes a flow.
-pub fn close<T: FlowList>(table: &mut [u8], list: &mut [T], w: Wheel, flow: usize) -> Result<usize, Refusal>
+pub fn close<T: FlowList>(
+    table: &mut [u8],
+    list: &mut [T],
+    w: Wheel,
+    flow: usize,
+) -> Result<usize, Refusal>
     ensures { PerformsOn T.count T.records T.Put (chip_of w table.old) table.old list.old (closing flow)
         table.new list.new (of_cleared result) }
 {

@@ -1,6 +1,5 @@
 -- Each turn checks one more record; then the used cells are as many as are claimed, or are not.
 use Rattle.std.proofs.Common.{◌≡◌, subst, sym, ◌∙◌, arith}
-use Rattle.std.proofs.lemmas.Bool.Decides.{nat_tests}
 use Rattle.rules.specs.Orders.{Agrees}
 use Rattle.laws.specs.Logic.{tells_yes, tells_no}
 use Rattle.agree.specs.Checks.{Claimed, Checks, checks_none, checks_more, checks_all, checks_stray}

@@ -1,7 +1,6 @@
 -- Part by part of the order: what refuses a part refuses the whole, and what settles the last part settles the whole.
 use Rattle.std.proofs.Common.{◌≡◌, sym, subst, false, is_some}
 use Rattle.std.proofs.lemmas.Result.{err_from_is_err_and}
-use Rattle.rules.specs.Flows.{Own}
 use Rattle.rules.specs.Numbers.{Passes}
 use Rattle.rules.specs.Orders.{Ready, checked, way_lines, flow_lines, state_lines}
 use Rattle.laws.specs.Logic.{not_false_true}

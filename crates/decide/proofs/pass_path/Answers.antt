@@ -1,6 +1,6 @@
 -- 5, 6 and 7 are tests, each behind those before it.
 use Rattle.std.proofs.Common.{inl, inr, arith}
-use Rattle.std.proofs.Common.{List, ℕ, ◌≤◌}
+use Rattle.std.proofs.Common.{List, ◌≤◌}
 use Rattle.rules.specs.declared.Chip.{Chip}
 use Rattle.rules.specs.declared.Path.{Path}
 use Rattle.rules.specs.Paths.{Inside}

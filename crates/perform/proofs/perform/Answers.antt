@@ -1,8 +1,8 @@
 -- The record that was read is the flow's, and so obeys its own rules where table and list agree; what is decided, marked and put
 -- is what was asked.
-use Rattle.std.proofs.Common.{subst, sym, arith}
+use Rattle.std.proofs.Common.{arith}
 use Rattle.std.proofs.lemmas.Result.{err_from_is_err_and}
-use Rattle.perform.specs.Joined.{Writable, own_told, performs_not, flow_one, flow_inside, change_written, performs_yes}
+use Rattle.perform.specs.Joined.{own_told, performs_not, flow_one, flow_inside, change_written, performs_yes}
 use Rattle.perform.proofs.perform.Goals as goal
 
 pub decide-requires : goal.decide-requires
@@ -20,8 +20,8 @@ pub overflow_cast-change : goal.overflow_cast-change
 overflow_cast-change g c =
     let l = g.T.FlowList in
     let written =
-        change_written l.count l.records l.Put l.form _ _ _ _ c.held-held.ensures.agree _ c.args.call c.flow_record-r.ensures _ c.count.ensures
-        _ c.in_ok-yes.ensures _ c.change-change.ensures in
+    change_written l.count l.records l.Put l.form _ _ _ _ c.held-held.ensures.agree _ c.args.call c.flow_record-r.ensures _ c.count.ensures
+    _ c.in_ok-yes.ensures _ c.change-change.ensures in
     omega (arith, written.small)
 
 pub mark-requires-clause-legal : goal.mark-requires-clause-legal

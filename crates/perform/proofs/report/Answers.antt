@@ -1,9 +1,8 @@
 -- The gate's refusal, or the totals, on the chip of wheel and table.
-use Rattle.std.specs.Prelude.{◌≡◌, ◌-◌, ◌*◌, Ok, Err}
-use Rattle.std.proofs.Common.{subst, sym, arith}
+use Rattle.std.specs.Prelude.{◌-◌, ◌*◌, Ok, Err}
+use Rattle.std.proofs.Common.{subst, arith}
 use Rattle.std.proofs.Math.Nat.{mul-le-mul}
 use Rattle.std.proofs.lemmas.Result.{err_from_is_err_and}
-use Rattle.rules.specs.Paths.{chip_of}
 use Rattle.rules.specs.Numbers.{number}
 use Rattle.rules.specs.Promises.{Reports}
 use Rattle.ledger.specs.Lines.{checked_ready}
