@@ -1,13 +1,10 @@
 -- How the tables are filled: from the last position to the first, first the row of tails and then the row of heads.
 -- The function of one row does not know at which start the wheel is cut, and need not: what it computes is right for
 -- every start whose tables the later rows hold.
-use Rattle.std.specs.Prelude.{◌≡◌, refl, Bool, true, false, cond, List, ◌++◌, ◌⊎◌, leb, get_or, length, set, take, drop}
-use Rattle.std.proofs.Math.Path.{sym}
-use Rattle.std.proofs.Common.{rules, ap, ap₂, ◌∙◌, subst, inl, inr, ⊎_elim, add-zero, mul-le-mul_right, eq-or-lt_of_le, length-set, get_or-set_same, get_or-set_other}
-use Prim.Native.Nat.{ℕ, zero, suc, ◌+◌, ◌-◌, ◌*◌, ◌≤◌, ◌<◌, max, min}
-use native.Mathlib.Omega.{arith}
-use Rattle.std.proofs.lemmas.List.{places, get_or-take, get_or-drop, get_or-append_right}
+use Rattle.std.specs.Prelude.{◌≡◌, refl, Bool, true, false, cond, List, ◌++◌, ◌⊎◌, leb, get_or, length, set, take, drop, ℕ, zero, suc, ◌+◌, ◌-◌, ◌*◌, ◌≤◌, ◌<◌, max, min}
+use Rattle.std.proofs.Common.{rules, ap, ap₂, ◌∙◌, subst, inl, inr, ⊎_elim, add-zero, mul-le-mul_right, eq-or-lt_of_le, length-set, get_or-set_same, get_or-set_other, sym, arith}
 use Rattle.std.proofs.Math.ListN.{get_or-append}
+use Rattle.std.proofs.lemmas.List.{places, get_or-take, get_or-drop, get_or-append_right}
 use Rattle.laws.specs.Logic.{le_or_lt}
 use Rattle.line.specs.declared.Task.{Task}
 use Rattle.line.specs.Values.{N, S, P, L, or_none, raised, raised_none, raised_zero}
