@@ -1,8 +1,7 @@
 -- The order of bare selection's refusals, line by line: each is given where the lines before it are passed, and what passes
 -- them all is a demand that the free slots meet as a whole.
 use Rattle.std.specs.Prelude.{◌≡◌, refl, ℕ, ◌≤◌, ◌<◌}
-use Rattle.std.proofs.Math.Logic.{inl, inr}
-use Rattle.std.proofs.Common.{arith}
+use Rattle.std.proofs.Common.{inl, inr, arith}
 use Rattle.rules.specs.declared.Wheel.{Wheel}
 use Rattle.rules.specs.Sets.{Below}
 use Rattle.rules.specs.Wheels.{Legal, words, largest_gap}

@@ -1,6 +1,5 @@
 -- Each refusal is a line of the order, with the lines before it passed.
-use Prim.Native.Nat.{◌≤◌}
-use native.Mathlib.Omega.{arith}
+use Rattle.std.proofs.Common.{◌≤◌, arith}
 use Rattle.rules.specs.Wheels.{Legal, words, largest_gap}
 use Rattle.rules.specs.Promises.{Selects}
 use Rattle.select.specs.Verdicts.{Posed, bad_wheel, slot_beyond, no_time, too_much, too_far, meetable, passes}
