@@ -1,5 +1,5 @@
 -- What is asked of a search, said over its parts: the search itself keeps it in a ghost field.
-use Prim.Native.Nat.{ℕ, ◌≤◌}
+use Rattle.std.specs.Prelude.{ℕ, ◌≤◌}
 use Rattle.rules.specs.declared.Wheel.{Wheel}
 use Rattle.rules.specs.declared.Words.{Words}
 use Rattle.rules.specs.Sets.{Below}

@@ -1,14 +1,8 @@
 -- A bound that needs no table. Every header brings at most P slots, the first one no more than the free run at the start,
 -- and every header but the first is needed for a gap of at most L; so k slots pay at least a certain number of headers and
 -- cannot deliver more than what these leave. Starts that cannot win are passed over by this bound.
-use Rattle.std.specs.Prelude.{◌≡◌, refl, Bool, cond, ◌⊎◌, length}
-use Rattle.std.proofs.Math.Path.{ap}
-use Rattle.std.proofs.Common.{◌∙◌, inl, inr, mul-le-mul_right}
-use Rattle.std.proofs.Math.Bool.{true, false}
-use mathlib.Core.List.{List, [], ◌∷◌}
-use Prim.Native.Nat.{ℕ, zero, suc, ◌+◌, ◌-◌, ◌*◌, ◌/◌, ◌%◌, ◌≤◌, ◌<◌, min}
-use native.Mathlib.Omega.{arith}
-use Rattle.std.proofs.Math.Nat.{mod-lt}
+use Rattle.std.specs.Prelude.{◌≡◌, refl, Bool, cond, ◌⊎◌, length, true, false, List, [], ◌∷◌, ℕ, zero, suc, ◌+◌, ◌-◌, ◌*◌, ◌/◌, ◌%◌, ◌≤◌, ◌<◌, min}
+use Rattle.std.proofs.Common.{◌∙◌, inl, inr, mul-le-mul_right, ap, arith, mod-lt}
 use Rattle.rules.specs.Sets.{stretch}
 use Rattle.std.proofs.lemmas.Grind.{div_ceil_times}
 use Rattle.laws.specs.Logic.{le_or_lt}

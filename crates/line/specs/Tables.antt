@@ -1,11 +1,8 @@
 -- The two tables as the code keeps them: 64 entries for each position, the one of k slots at position p at p * 64 + k.
 -- An entry is the largest of some entries at later positions: a tail is the largest head that the gap allows, and a head
 -- the largest of its packets, each with the tail after it or, after a full packet, the next head.
-use Rattle.std.specs.Prelude.{◌≡◌, refl, true, false, List, ◌⊎◌, get_or}
-use Rattle.std.proofs.Math.Path.{sym, ap, ap₂}
-use Rattle.std.proofs.Common.{◌∙◌, inl, inr, ⊎_elim, add-zero}
-use Prim.Native.Nat.{ℕ, zero, suc, ◌+◌, ◌-◌, ◌*◌, ◌≤◌, ◌<◌, max, min}
-use native.Mathlib.Omega.{arith}
+use Rattle.std.specs.Prelude.{◌≡◌, refl, true, false, List, ◌⊎◌, get_or, ℕ, zero, suc, ◌+◌, ◌-◌, ◌*◌, ◌≤◌, ◌<◌, max, min}
+use Rattle.std.proofs.Common.{◌∙◌, inl, inr, ⊎_elim, add-zero, sym, ap, ap₂, arith}
 use Rattle.laws.specs.Logic.{le_or_lt}
 use Rattle.line.specs.declared.Task.{Task}
 use Rattle.line.specs.Asked.{Asked}

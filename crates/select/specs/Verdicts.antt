@@ -66,3 +66,6 @@ module _ (w : Wheel) (free W L : ℕ) (p : Posed w free W L) where
           let delivers = not_thirteen w p.legal free W enough in
           let meets = not_fourteen w p.legal free W L enough near in
           ((λ bad. bad p.legal), ((λ beyond. beyond p.fit), (p.some, (p.time, (delivers, (meets, tt))))))
+
+-- what is said at each way out
+pub ruleset verdicts = (bad_wheel, slot_beyond, no_words, no_time, too_much, too_far, passes)

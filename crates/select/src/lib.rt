@@ -8,7 +8,7 @@ use rules::{Grant, Refusal, Wheel, Words};
 // The best set of free slots that delivers the words with no gap above the limit. The refusals stand
 // in their order: 1, 15, 11, 12, 13, 14. All free slots together deliver the most words and have the
 // smallest gaps, so that 13 and 14 are asked of them.
-#[tactic(auto, using(crate::specs::Verdicts::no_words), unfolding(rules::specs::Promises::Selects))]
+#[tactic(auto, using(crate::specs::Verdicts::verdicts), unfolding(rules::specs::Promises::Selects))]
 pub fn select(w: Wheel, free: u64, words: Words, limit: u16) -> Result<Grant, Refusal>
     ensures { Selects w free words.0 limit result }
 {
