@@ -143,6 +143,7 @@ fn slots_number(x: u64, j: usize) -> u16
 }
 
 // Number j of the record r.
+#[tactic(auto, unfolding(crate::specs::Layout::number_of))]
 fn number_of(r: Record, j: usize) -> u16
     requires { r.path.len ≤ 16 }
     ensures { result ≡ number_of r j }
