@@ -1,7 +1,6 @@
 -- A record's numbers, one after the other, and what the bytes are while they are written.
 use Rattle.std.specs.Prelude.{◌≡◌, refl, List, ◌⊎◌, ℕ, suc, ◌+◌, ◌-◌, ◌*◌, ◌/◌, ◌%◌, ◌≤◌, ◌<◌, get_or, length, set}
-use Rattle.std.proofs.Common.{ap, ◌∙◌, inl, inr, arith, eq-or-lt_of_le, length-set, get_or-set_same, get_or-set_other}
-use borrow.Author.Tests.{lt-ltb, le-ltb}
+use Rattle.std.proofs.Common.{ap, ◌∙◌, inl, inr, arith, eq-or-lt_of_le, length-set, get_or-set_same, get_or-set_other, lt-ltb, le-ltb}
 use Rattle.rules.specs.declared.Record.{Record}
 use Rattle.bytes_list.specs.Layout.{state_number, slots_number, number_of, Written}
 
