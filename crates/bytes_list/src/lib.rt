@@ -97,7 +97,6 @@ fn entries_at(bytes: &[u8; 64]) -> [u16; 16]
 }
 
 // The chosen slots, numbers 20 to 23, the lowest first.
-#[tactic(auto, unfolding(crate::specs::Layout::slots_from, crate::specs::Layout::number_at))]
 fn slots_at(bytes: &[u8; 64]) -> u64
     ensures { result ≡ slots_from (numbers_at bytes.now 0) }
 {
@@ -143,6 +142,7 @@ fn slots_number(x: u64, j: usize) -> u16
 }
 
 // Number j of the record r.
+#[tactic(auto, unfolding(crate::specs::Layout::number_of))]
 fn number_of(r: Record, j: usize) -> u16
     requires { r.path.len ≤ 16 }
     ensures { result ≡ number_of r j }

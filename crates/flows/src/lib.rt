@@ -104,6 +104,7 @@ fn lawful(chip: Chip, d: Demand, r: Record) -> bool
 }
 
 // Whether a record obeys its own rules.
+#[tactic(auto, unfolding(rules::specs::Flows::Own))]
 pub fn own(chip: Chip, r: Record) -> bool
     requires { Legal chip.wheel }
     ensures { Tells result (Own chip r.state r) }

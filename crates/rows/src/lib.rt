@@ -37,6 +37,7 @@ impl Turn {
 }
 
 // The set of all slots of the wheel.
+#[tactic(auto, using(crate::specs::Slots::all_slots))]
 pub fn all_slots(w: Wheel) -> u64
     requires { Legal w }
     ensures { result ≡ set_of (λ _. true) 0 w.n }

@@ -1,29 +1,31 @@
--- What is counted one by one is the sum over the cells.
-use Rattle.std.proofs.Common.{◌≡◌, refl, sym, ap, ◌∙◌, ℕ, suc, ◌+◌, Bool, true, false, cond, List, [], ◌∷◌, length, get_or, not, eqb, add-zero, zero-add, suc-add, add-suc, rules}
-use Rattle.std.specs.List.{count_by}
-use Rattle.std.proofs.lemmas.List.Sums.{sum_by-cons}
+-- The loop has counted the cells that it has seen and that are not 0.
+use Rattle.std.proofs.Common.{◌≡◌, refl, ap, ◌∙◌, ℕ, cond, arith, length, get_or, eq-eqb, ne_eqb}
 use Rattle.rules.specs.Sets.{sum}
+use Rattle.laws.specs.Counting.{sum_more}
 use Rattle.ledger.specs.Totals.{used, used_cells}
 use Rattle.table.proofs.count_used.Goals as goal
+use Rattle.table.proofs.count_used.Invariants.{counted}
 
-one : (v : ℕ) → used v ≡ cond (not (eqb v 0)) 1 0
-one v = go (eqb v 0)
-  where
-    go : (b : Bool) → cond {A = ℕ} b 0 1 ≡ cond (not b) 1 0
-    go true = refl
-    go false = refl
+used_none : (v : ℕ) → v ≡ 0 → used v ≡ 0
+used_none v e = ap (λ b. cond b 0 1) (eq-eqb v 0 e)
 
-counted : (t : List ℕ) (f : ℕ → ℕ) (i : ℕ) → ((j : ℕ) → f (i + j) ≡ used (get_or t j 0)) → sum f i (length t) ≡ count_by (λ x. not (eqb x 0)) t
+used_one : (v : ℕ) → ¬ (v ≡ 0) → used v ≡ 1
+used_one v e = ap (λ b. cond b 0 1) (ne_eqb v 0 e)
+
+pub loop-cell-init : goal.loop-cell-init
 unfolding sum
-counted [] f i same = refl
-counted (x ∷ xs) f i same =
-    let here : f i ≡ cond (not (eqb x 0)) 1 0 = ap f (sym (add-zero i)) ∙ same 0 ∙ one x in
-    let others : sum f (suc i) (length xs) ≡ count_by (λ x. not (eqb x 0)) xs = counted xs f (suc i) (λ j. ap f (suc-add i j ∙ sym (add-suc i j)) ∙ same (suc j)) in
-    rw (here, others, sum_by-cons)
+loop-cell-init c = record { few = omega arith; so_far = refl }
+
+pub loop-cell-preserved : goal.loop-cell-preserved
+loop-cell-preserved c =
+    let at = c.loop-cell in
+    let i = at.cell-index in
+    let t = c.args.table.now in
+    grind (arith, at.invariant.few, at.invariant.so_far, sum_more (λ j. used (get_or t j 0)) i, used_none (get_or t i 0), used_one (get_or t i 0))
 
 pub returns : goal.returns
 unfolding used_cells
 returns c =
     let t = c.args.table.now in
-    let e : c.count.result ≡ count_by (λ x. not (eqb x 0)) t = search rules in
-    e ∙ sym (counted t _ 0 (λ j. ap (λ k. used (get_or t k 0)) (zero-add j)))
+    let all : c.loop-cell.cell-index ≡ length t = omega arith in
+    c.loop-cell.invariant.so_far ∙ ap (counted t) all
