@@ -217,24 +217,14 @@ fn wide_numbers(empty: &Scene) -> Tally {
 // The wheels of which the least deadline is tried.
 const WHEELS: [Wheel; 5] = [
     WHEEL,
-    Wheel {
-        n: 1,
-        s: 3,
-        h: 1,
-        p: 3,
-    },
+    Wheel { n: 1, ..WHEEL },
     Wheel {
         n: 5,
         s: 2,
         h: 0,
         p: 1,
     },
-    Wheel {
-        n: 64,
-        s: 3,
-        h: 1,
-        p: 3,
-    },
+    Wheel { n: 64, ..WHEEL },
     Wheel {
         n: 63,
         s: 64,

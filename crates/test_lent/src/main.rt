@@ -4,6 +4,8 @@
 // and bare selection run too.
 #![tactic(auto)]
 
+ghost use Rattle.jellyspire.specs.Lent.{OpensLent, ClosesLent};
+
 use apart::No;
 use model::{Asked, Call, Reply, Rooms, Yes};
 use rules::{Demand, Grant, Path, Record, Refusal, State, Wheel, Words};
@@ -59,7 +61,9 @@ fn demand(words: u16, deadline: u16) -> Demand {
 
 impl Lists {
     // Opens a flow over both channels.
-    fn open(&mut self, flow: usize, demand: Demand) -> Result<Grant, Refusal> {
+    fn open(&mut self, flow: usize, demand: Demand) -> Result<Grant, Refusal>
+        ensures { OpensLent WHEEL self.old.table self.old.list BOTH 2 flow demand self.new.table self.new.list result }
+    {
         let mut table = self.table;
         let mut list = self.list;
         let answer = jellyspire::open(&mut table, &mut list, WHEEL, flow, BOTH, 2, demand);
@@ -69,7 +73,9 @@ impl Lists {
     }
 
     // Closes a flow; how many cells that cleared.
-    fn close(&mut self, flow: usize) -> Result<usize, Refusal> {
+    fn close(&mut self, flow: usize) -> Result<usize, Refusal>
+        ensures { ClosesLent WHEEL self.old.table self.old.list flow self.new.table self.new.list result }
+    {
         let mut table = self.table;
         let mut list = self.list;
         let answer = jellyspire::close(&mut table, &mut list, WHEEL, flow);
@@ -252,9 +258,9 @@ fn disagreeing(rt: HostRuntime, lists: &mut Lists) -> io::Result<()> {
 // The rows of both channels, and of one that is not there.
 fn rows(rt: HostRuntime, table: &[u8; CELLS]) -> io::Result<()> {
     print!(rt; "row 0: ")?;
-    say_modelled(rt, *jellyspire::row(table, WHEEL, 0) == table[..8])?;
+    say_modelled(rt, jellyspire::row(table, WHEEL, 0) == &table[..8])?;
     print!(rt; "row 1: ")?;
-    say_modelled(rt, *jellyspire::row(table, WHEEL, 1) == table[64..72])?;
+    say_modelled(rt, jellyspire::row(table, WHEEL, 1) == &table[64..72])?;
     print!(rt; "row 2: ")?;
     say_modelled(rt, jellyspire::row(table, WHEEL, 2).is_empty())
 }

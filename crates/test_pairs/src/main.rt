@@ -84,48 +84,17 @@ fn ways(no: No) -> &'static [Change] {
     match no {
         // A value outside its range.
         No::BadWheel => &[
+            Change::Wheel(Wheel { n: 0, ..WHEEL }),
+            Change::Wheel(Wheel { n: 65, ..WHEEL }),
             Change::Wheel(Wheel {
-                n: 0,
-                s: 3,
-                h: 1,
-                p: 3,
-            }),
-            Change::Wheel(Wheel {
-                n: 65,
-                s: 3,
-                h: 1,
-                p: 3,
-            }),
-            Change::Wheel(Wheel {
-                n: 8,
                 s: 1,
                 h: 0,
-                p: 3,
+                ..WHEEL
             }),
-            Change::Wheel(Wheel {
-                n: 8,
-                s: 65,
-                h: 1,
-                p: 3,
-            }),
-            Change::Wheel(Wheel {
-                n: 8,
-                s: 3,
-                h: 3,
-                p: 3,
-            }),
-            Change::Wheel(Wheel {
-                n: 8,
-                s: 3,
-                h: 1,
-                p: 0,
-            }),
-            Change::Wheel(Wheel {
-                n: 8,
-                s: 3,
-                h: 1,
-                p: 65,
-            }),
+            Change::Wheel(Wheel { s: 65, ..WHEEL }),
+            Change::Wheel(Wheel { h: 3, ..WHEEL }),
+            Change::Wheel(Wheel { p: 0, ..WHEEL }),
+            Change::Wheel(Wheel { p: 65, ..WHEEL }),
         ],
         // A length that is 0, no multiple of 64, or of 65 rows.
         No::BadTable => &[
