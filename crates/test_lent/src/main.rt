@@ -86,12 +86,13 @@ impl Lists {
 
     // Table and list as bytes.
     fn rooms(&self) -> Rooms {
-        let mut rooms = Rooms::empty();
-        rooms.table[..CELLS].copy_from_slice(&self.table);
+        let mut table: [u8; model::ROOM] = [0; model::ROOM];
+        table[..CELLS].copy_from_slice(&self.table);
+        let mut list: [u8; model::ROOM] = [0; model::ROOM];
         for (flow, record) in (1..=16).zip(&self.list) {
-            as_model(record).write(&mut rooms.list, flow);
+            as_model(record).write(&mut list, flow);
         }
-        rooms
+        Rooms { table, list }
     }
 }
 
