@@ -5,6 +5,8 @@
 
 ghost use Rattle.std.specs.Prelude.{◌≤◌, ◌<◌};
 
+use std::fmt;
+
 // A wheel: its slots, the words of a slot, the words of a header, and the header's period.
 #[derive(Clone, Copy)]
 pub struct Wheel {
@@ -12,6 +14,16 @@ pub struct Wheel {
     pub s: u64,
     pub h: u64,
     pub p: u64,
+}
+
+impl fmt::Display for Wheel {
+    fn fmt<W: fmt::Write>(&self, f: &mut fmt::Formatter<W>) -> fmt::Result {
+        let n = self.n;
+        let s = self.s;
+        let h = self.h;
+        let p = self.p;
+        write!(f, "N {n} S {s} H {h} P {p}")
+    }
 }
 
 // What bare selection is asked: on which wheel, which slots are free, how many words are wanted, and
@@ -32,17 +44,52 @@ pub struct Grant {
     pub words: u64,
 }
 
-// Why it grants nothing, each with the number that document 01 gives it; and one that is not of
-// document 01, for a wheel that is too large to go through its sets.
+// Why a call is refused, each with the number that document 01 gives it: bare selection by 1 and by
+// 11 to 15. The last is not of document 01, for a wheel that is too large to go through its sets.
 #[derive(Clone, Copy, PartialEq, Eq)]
 pub enum No {
     BadWheel = 1,
+    BadTable = 2,
+    BadList = 3,
+    Disagree = 4,
+    PathLength = 5,
+    NoChannel = 6,
+    ChannelTwice = 7,
+    NoFlow = 8,
+    AlreadyOpen = 9,
+    NotOpen = 10,
     NoWords = 11,
     NoLimit = 12,
     TooMuch = 13,
     TooFar = 14,
     NoSuchSlot = 15,
     TooLarge = 99,
+}
+
+impl No {
+    // All of document 01, by their numbers.
+    pub const ALL: [No; 15] = [
+        No::BadWheel,
+        No::BadTable,
+        No::BadList,
+        No::Disagree,
+        No::PathLength,
+        No::NoChannel,
+        No::ChannelTwice,
+        No::NoFlow,
+        No::AlreadyOpen,
+        No::NotOpen,
+        No::NoWords,
+        No::NoLimit,
+        No::TooMuch,
+        No::TooFar,
+        No::NoSuchSlot,
+    ];
+
+    // The one with this number in document 01.
+    pub fn of_number(number: u64) -> Option<No> {
+        No::ALL.into_iter().find(|no| *no as u64 == number)
+    }
 }
 
 // The set x without its slots at n and beyond.
@@ -460,45 +507,4 @@ fn better_listed(asked: Asked, best: Option<Measured>, set: Measured) -> Option<
         Some(b) if b.rank <= set.rank => best,
         _ => Some(set),
     }
-}
-
-// ---- the same with a number for each refusal, for the tests that ask so
-
-// What was found: `no` is 0 for a grant, and else a refusal's number beside zeros.
-#[derive(Clone, Copy)]
-pub struct Found {
-    pub no: u64,
-    pub slots: u64,
-    pub count: u64,
-    pub words: u64,
-}
-
-// What was found, in this form.
-pub fn as_found(answer: Result<Grant, No>) -> Found {
-    match answer {
-        Ok(set) => Found {
-            no: 0,
-            slots: set.slots,
-            count: set.count,
-            words: set.words,
-        },
-        Err(no) => Found {
-            no: no as u64,
-            slots: 0,
-            count: 0,
-            words: 0,
-        },
-    }
-}
-
-// Whether every value of the wheel lies in its range.
-pub fn fits(n: u64, s: u64, h: u64, p: u64) -> bool {
-    let w = Wheel { n, s, h, p };
-    w.fits()
-}
-
-// The words of the set x.
-pub fn words(n: u64, s: u64, h: u64, p: u64, x: u64) -> u64 {
-    let w = Wheel { n, s, h, p };
-    w.words(x)
 }

@@ -9,7 +9,7 @@
 
 ghost use Rattle.std.specs.Prelude.{◌<◌};
 
-use apart::{Asked, Found, Grant, No, Wheel};
+use apart::{Asked, Grant, No, Wheel};
 
 // A choice of positions: its words, and its image, in which position i is bit 63 - i. Of two choices
 // of as many positions, the larger image has the smaller position where they first differ: so the
@@ -233,15 +233,4 @@ pub fn select(asked: Asked) -> Result<Grant, No> {
         return Err(No::TooFar);
     }
     Ok(over_starts(asked).unwrap_or(all))
-}
-
-// Bare selection, with a number for each refusal.
-pub fn search(n: u64, s: u64, h: u64, p: u64, free: u64, words: u64, limit: u64) -> Found {
-    let wheel = Wheel { n, s, h, p };
-    apart::as_found(select(Asked {
-        wheel,
-        free,
-        words,
-        limit,
-    }))
 }
