@@ -1,9 +1,11 @@
 -- What the calls promise of a list that is lent as bytes: document 01's answer for the list that the bytes stand for, before
 -- and after, and every byte of it: a grant writes one record, a refusal nothing.
-use Rattle.std.specs.Prelude.{◌≡◌, refl, Bool, false, cond, List, ◌⊎◌, ℕ, ◌+◌, ◌-◌, ◌*◌, ◌≤◌, ◌<◌, length, set}
+use Rattle.std.specs.Prelude.{◌≡◌, refl, Bool, false, cond, List, ◌⊎◌, ℕ, ◌+◌, ◌-◌, ◌*◌, ◌≤◌, ◌<◌, length, set, Result, Ok, Err}
 use Rattle.std.proofs.Common.{sym, ap, ◌∙◌, inl, inr, arith}
 use Rattle.std.proofs.Math.Path.{subst}
 use Rattle.std.proofs.Math.Bool.{true}
+use Rattle.rules.specs.declared.Refusal.{Refusal}
+use Rattle.rules.specs.declared.Totals.{Totals}
 use Rattle.rules.specs.declared.Demand.{Demand}
 use Rattle.rules.specs.declared.Record.{Record}
 use Rattle.rules.specs.declared.Grant.{Grant}
@@ -12,11 +14,6 @@ use Rattle.rules.specs.declared.Verb.{Verb}
 use Rattle.rules.specs.declared.Verb.TheVariants.{ToOpen, ToClose}
 use Rattle.rules.specs.declared.Yes.{Yes}
 use Rattle.rules.specs.declared.Yes.TheVariants as yes
-use Rattle.rules.specs.declared.Answer.{Answer}
-use Rattle.rules.specs.declared.Answer.TheVariants as answer
-use Rattle.rules.specs.declared.Opened.{Opened}
-use Rattle.rules.specs.declared.Cleared.{Cleared}
-use Rattle.rules.specs.declared.Reported.{Reported}
 use Rattle.rules.specs.Tells.{Tells}
 use Rattle.rules.specs.Sets.{Below}
 use Rattle.rules.specs.Paths.{Chip, free_slots}
@@ -55,31 +52,31 @@ module _ (chip : Chip) (t b : List ℕ) where
   abbrev pub ChecksBytes : Checked → Type 0
   ChecksBytes = Checks chip t (count_of b) (list_in b) (count_of b)
 
-  abbrev pub ReportsBytes : Reported → Type 0
+  abbrev pub ReportsBytes : Result Totals Refusal → Type 0
   ReportsBytes = Reports chip t (count_of b) (list_in b)
 
   -- the bytes of the list after a call
-  abbrev pub Leaves : Call → List ℕ → Answer → Type 0
-  Leaves call b' (answer.Done y) =
+  abbrev pub Leaves : Call → List ℕ → Result Yes Refusal → Type 0
+  Leaves call b' (Ok y) =
       Written b (64 * (call.flow - 1)) (change (flow (list_in b) (call.flow - 1)) call call.verb y).new b'
-  Leaves call b' (answer.Refused q) = b' ≡ b
+  Leaves call b' (Err q) = b' ≡ b
 
-  pub record PerformsBytes (call : Call) (t' b' : List ℕ) (a : Answer) : Type 0 where
+  pub record PerformsBytes (call : Call) (t' b' : List ℕ) (a : Result Yes Refusal) : Type 0 where
     pub answers : Performs chip t (count_of b) (list_in b) call t' (list_in b') a
     pub bytes : Leaves call b' a
 
   -- opening and closing are its cases
-  abbrev pub OpensBytes : List ℕ → ℕ → ℕ → Demand → List ℕ → List ℕ → Opened → Type 0
+  abbrev pub OpensBytes : List ℕ → ℕ → ℕ → Demand → List ℕ → List ℕ → Result Grant Refusal → Type 0
   OpensBytes path m f d t' b' a = PerformsBytes (opening path m f d) t' b' (of_opened a)
 
-  abbrev pub ClosesBytes : ℕ → List ℕ → List ℕ → Cleared → Type 0
+  abbrev pub ClosesBytes : ℕ → List ℕ → List ℕ → Result ℕ Refusal → Type 0
   ClosesBytes f t' b' a = PerformsBytes (closing f) t' b' (of_cleared a)
 
 -- ---- what is stored fits a record's bytes
 
 pub record Fitting (r : Record) : Type 0 where
-  pub len : r.len ≤ 16
-  pub long : length r.path ≡ 16
+  pub len : r.path.len ≤ 16
+  pub long : length r.path.entries ≡ 16
   pub slots : r.slots < 18446744073709551616
 
 closed_fits : Fitting closed_record
@@ -103,8 +100,8 @@ change_fits chip t n disagree r call (ToOpen d) (yes.Granted g) p told =
     let ready = checked_ready chip t n disagree (passes_front (checked chip t n disagree) _ p) in
     record {
       len = (saw chip t n disagree r.state call d p).fits;
-      long = trimmed_long call.path call.len;
-      slots = granted_small chip t call.path call.len _ _ g ready.legal.n64 told;
+      long = trimmed_long call.path.entries call.path.len;
+      slots = granted_small chip t call.path.entries call.path.len _ _ g ready.legal.n64 told;
     }
 change_fits chip t n disagree r call (ToOpen d) (yes.Cells k) p told = absurd told
 change_fits chip t n disagree r call ToClose y p told = closed_fits
@@ -130,12 +127,12 @@ module _ (chip : Chip) (t b : List ℕ) (agreed : Bool) (tells : Tells agreed (A
   unfolding Settles
   fits e = subst Fitting (sym one.new) (go o.answer one.decides (sym one.go ∙ e))
     where
-      go : (a : Answer) → Decides chip t n (agreed ≡ false) r call call.verb a → is_done a ≡ true → Fitting (change_of r call a).new
-      go (answer.Done y) d e = change_fits chip t n (agreed ≡ false) r call call.verb y d.0 d.1
-      go (answer.Refused q) d e = absurd (not_both e refl)
+      go : (a : Result Yes Refusal) → Decides chip t n (agreed ≡ false) r call call.verb a → is_done a ≡ true → Fitting (change_of r call a).new
+      go (Ok y) d e = change_fits chip t n (agreed ≡ false) r call call.verb y d.0 d.1
+      go (Err q) d e = absurd (not_both e refl)
 
   -- what is stored has room in the list, and is short enough
-  pub store_room : o.go ≡ true → (64 * o.at + 64 ≤ length b) × (o.new.len ≤ 16)
+  pub store_room : o.go ≡ true → (64 * o.at + 64 ≤ length b) × (o.new.path.len ≤ 16)
   store_room e = (omega (arith, (at e).0, count_room b), (fits e).len)
 
   pub performs_bytes : (b' : List ℕ) → Stored o.go b o.at o.new b' → PerformsBytes chip t b call t' b' o.answer
@@ -146,37 +143,37 @@ module _ (chip : Chip) (t b : List ℕ) (agreed : Bool) (tells : Tells agreed (A
         bytes = go o.answer one.go one.new;
       }
     where
-      go : (a : Answer) → o.go ≡ is_done a → o.new ≡ (change_of r call a).new → Leaves chip t b call b' a
-      go (answer.Done y) e new =
+      go : (a : Result Yes Refusal) → o.go ≡ is_done a → o.new ≡ (change_of r call a).new → Leaves chip t b call b' a
+      go (Ok y) e new =
           subst (λ x. Written b (64 * (call.flow - 1)) x b') (new ∙ ap (λ x. (change x call call.verb y).new) (at e).2)
           (subst (λ k. Written b (64 * k) o.new b') one.at (stored.yes e))
-      go (answer.Refused q) e new = stored.no e
+      go (Err q) e new = stored.no e
 
 -- ---- opening and closing: the chip is made from wheel and table, the call from what was asked, and the answer is told in
 -- their words
 
-module _ (chip made : Chip) (made-is : made ≡ chip) (t b t' b' : List ℕ) (a : Answer) where
+module _ (chip made : Chip) (made-is : made ≡ chip) (t b t' b' : List ℕ) (a : Result Yes Refusal) where
   pub opens_bytes : (path : List ℕ) (m f : ℕ) (d : Demand) (call : Call) → call ≡ opening path m f d → PerformsBytes made t b call t' b' a
-      → (o : Opened) → o ≡ to_opened a → OpensBytes chip t b path m f d t' b' o
+      → (o : Result Grant Refusal) → o ≡ to_opened a → OpensBytes chip t b path m f d t' b' o
   opens_bytes path m f d call e p o told =
       subst (OpensBytes chip t b path m f d t' b') (sym told)
       (go a (subst (λ x. PerformsBytes x t b (opening path m f d) t' b' a) made-is (subst (λ x. PerformsBytes made t b x t' b' a) e p)))
     where
-      go : (a : Answer) → PerformsBytes chip t b (opening path m f d) t' b' a → OpensBytes chip t b path m f d t' b' (to_opened a)
-      go (answer.Done (yes.Granted g)) p = p
-      go (answer.Done (yes.Cells k)) p = absurd p.answers.1
-      go (answer.Refused q) p = p
+      go : (a : Result Yes Refusal) → PerformsBytes chip t b (opening path m f d) t' b' a → OpensBytes chip t b path m f d t' b' (to_opened a)
+      go (Ok (yes.Granted g)) p = p
+      go (Ok (yes.Cells k)) p = absurd p.answers.1
+      go (Err q) p = p
 
-  pub closes_bytes : (f : ℕ) (call : Call) → call ≡ closing f → PerformsBytes made t b call t' b' a → (o : Cleared) → o ≡ to_cleared a
+  pub closes_bytes : (f : ℕ) (call : Call) → call ≡ closing f → PerformsBytes made t b call t' b' a → (o : Result ℕ Refusal) → o ≡ to_cleared a
       → ClosesBytes chip t b f t' b' o
   closes_bytes f call e p o told =
       subst (ClosesBytes chip t b f t' b') (sym told)
       (go a (subst (λ x. PerformsBytes x t b (closing f) t' b' a) made-is (subst (λ x. PerformsBytes made t b x t' b' a) e p)))
     where
-      go : (a : Answer) → PerformsBytes chip t b (closing f) t' b' a → ClosesBytes chip t b f t' b' (to_cleared a)
-      go (answer.Done (yes.Granted g)) p = absurd p.answers.1
-      go (answer.Done (yes.Cells k)) p = p
-      go (answer.Refused q) p = p
+      go : (a : Result Yes Refusal) → PerformsBytes chip t b (closing f) t' b' a → ClosesBytes chip t b f t' b' (to_cleared a)
+      go (Ok (yes.Granted g)) p = absurd p.answers.1
+      go (Ok (yes.Cells k)) p = p
+      go (Err q) p = p
 
 -- there is room for each record of the list
 pub record_room : (b : List ℕ) (i : ℕ) → i < count_of b → 64 * i + 64 ≤ length b

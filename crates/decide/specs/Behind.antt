@@ -1,15 +1,14 @@
 -- From parts to the whole: behind the gate, and behind the tests of an opening, where bare selection decides what is left.
-use Rattle.std.specs.Prelude.{◌≡◌, Bool, false, List, ◌⊎◌, ℕ, ◌≤◌}
+use Rattle.std.specs.Prelude.{◌≡◌, Bool, false, List, ◌⊎◌, ℕ, ◌≤◌, Result, Ok, Err}
 use Rattle.std.proofs.Common.{subst, inl, inr, arith}
+use Rattle.rules.specs.declared.Refusal.{Refusal}
+use Rattle.rules.specs.declared.Yes.{Yes}
+use Rattle.rules.specs.declared.Grant.{Grant}
 use Rattle.rules.specs.declared.Demand.{Demand}
 use Rattle.rules.specs.declared.Record.{Record}
 use Rattle.rules.specs.declared.Call.{Call}
 use Rattle.rules.specs.declared.Verb.{Verb}
 use Rattle.rules.specs.declared.Verb.TheVariants.{ToOpen}
-use Rattle.rules.specs.declared.Answer.{Answer}
-use Rattle.rules.specs.declared.Answer.TheVariants as answer
-use Rattle.rules.specs.declared.Selected.{Selected}
-use Rattle.rules.specs.declared.Selected.TheVariants as selected
 use Rattle.rules.specs.Wheels.{Legal}
 use Rattle.rules.specs.Paths.{Chip, allowed, free_slots}
 use Rattle.rules.specs.Numbers.{number, Line, ◌then◌, Passes}
@@ -32,30 +31,30 @@ unfolding Gates
 through chip t n agreed g e h = subst (Gates chip t n (agreed ≡ false)) e h
 
 -- behind the gate
-pub decides_behind : (chip : Chip) (t : List ℕ) (n : ℕ) (disagree : Type 0) (r : Record) (call : Call) (v : Verb) (a : Answer)
+pub decides_behind : (chip : Chip) (t : List ℕ) (n : ℕ) (disagree : Type 0) (r : Record) (call : Call) (v : Verb) (a : Result Yes Refusal)
     → Passes (checked chip t n disagree) → DecidesOwn chip t n r call v a → Decides chip t n disagree r call v a
 unfolding Settles
-decides_behind chip t n disagree r call v (answer.Done y) p d = (passes_then (checked chip t n disagree) _ p d.0, d.1)
-decides_behind chip t n disagree r call v (answer.Refused q) p d = behind (checked chip t n disagree) _ (number q) p d
+decides_behind chip t n disagree r call v (Ok y) p d = (passes_then (checked chip t n disagree) _ p d.0, d.1)
+decides_behind chip t n disagree r call v (Err q) p d = behind (checked chip t n disagree) _ (number q) p d
 
 -- bare selection decides what is left behind the lines xs: of its own refusals only 13 and 14 can come
 pub selection_settles : (xs : List Line) (chip : Chip) (t : List ℕ) (r : Record) (call : Call) (d : Demand) (free L : ℕ)
     → Legal chip.wheel → 1 ≤ d.words.0 → 1 ≤ L
-    → free ≡ free_slots chip t call.path call.len → L ≡ allowed chip call.path call.len d.deadline → Passes xs
-    → (a : Selected) → Selects chip.wheel free d.words.0 L a
-    → Settles (xs then room_lines chip.wheel (free_slots chip t call.path call.len) d.words.0 (allowed chip call.path call.len d.deadline))
+    → free ≡ free_slots chip t call.path.entries call.path.len → L ≡ allowed chip call.path.entries call.path.len d.deadline → Passes xs
+    → (a : Result Grant Refusal) → Selects chip.wheel free d.words.0 L a
+    → Settles (xs then room_lines chip.wheel (free_slots chip t call.path.entries call.path.len) d.words.0 (allowed chip call.path.entries call.path.len d.deadline))
     chip t r call (ToOpen d) (of_selected a)
 unfolding Selects Settles Passes
 selection_settles xs chip t r call d free L legal w1 l1 e f p a s = go a (rw (← e, ← f) s)
   where
-    go : (a : Selected) → Selects chip.wheel (free_slots chip t call.path call.len)
-        d.words.0 (allowed chip call.path call.len d.deadline) a
-        → Settles (xs then room_lines chip.wheel (free_slots chip t call.path call.len) d.words.0
-        (allowed chip call.path call.len d.deadline)) chip t r call (ToOpen d) (of_selected a)
-    go (selected.Chosen g) s = (passes_then xs _ p s.0.1.1.1.1, s.1)
-    go (selected.Refused q) s =
+    go : (a : Result Grant Refusal) → Selects chip.wheel (free_slots chip t call.path.entries call.path.len)
+        d.words.0 (allowed chip call.path.entries call.path.len d.deadline) a
+        → Settles (xs then room_lines chip.wheel (free_slots chip t call.path.entries call.path.len) d.words.0
+        (allowed chip call.path.entries call.path.len d.deadline)) chip t r call (ToOpen d) (of_selected a)
+    go (Ok g) s = (passes_then xs _ p s.0.1.1.1.1, s.1)
+    go (Err q) s =
         behind xs _ (number q) p
-        (past (asked_lines chip.wheel (free_slots chip t call.path call.len) d.words.0 (allowed chip call.path call.len d.deadline)) _
+        (past (asked_lines chip.wheel (free_slots chip t call.path.entries call.path.len) d.words.0 (allowed chip call.path.entries call.path.len d.deadline)) _
         (number q)
-        (λ no. no legal, (λ no. no (free_below chip t call.path call.len), (λ no. omega (arith, w1), (λ no. omega (arith, l1, f), tt))))
+        (λ no. no legal, (λ no. no (free_below chip t call.path.entries call.path.len), (λ no. omega (arith, w1), (λ no. omega (arith, l1, f), tt))))
         s)

@@ -1,15 +1,8 @@
 -- How C is told an answer: a number, 0 for a yes, and the values of a yes in the array that C lent; a no leaves the array.
-use Rattle.std.specs.Prelude.{◌≡◌, List, [], ◌∷◌, ℕ}
+use Rattle.std.specs.Prelude.{◌≡◌, List, [], ◌∷◌, ℕ, Result, Ok, Err}
+use Rattle.rules.specs.declared.Totals.{Totals}
 use Rattle.rules.specs.declared.Grant.{Grant}
 use Rattle.rules.specs.declared.Refusal.{Refusal}
-use Rattle.rules.specs.declared.Selected.{Selected}
-use Rattle.rules.specs.declared.Selected.TheVariants as selected
-use Rattle.rules.specs.declared.Opened.{Opened}
-use Rattle.rules.specs.declared.Opened.TheVariants as opened
-use Rattle.rules.specs.declared.Cleared.{Cleared}
-use Rattle.rules.specs.declared.Cleared.TheVariants as cleared
-use Rattle.rules.specs.declared.Reported.{Reported}
-use Rattle.rules.specs.declared.Reported.TheVariants as reported
 use Rattle.rules.specs.Numbers.{number}
 
 -- what is said: the values of a yes, or a refusal
@@ -28,23 +21,23 @@ Told (refusal q) k v v' = (k ≡ number q) × (v' ≡ v)
 abbrev pub grant_values : Grant → List ℕ
 grant_values g = g.slots ∷ g.count ∷ g.words.0 ∷ []
 
-abbrev pub of_selected : Selected → Said
-of_selected (selected.Chosen g) = values (grant_values g)
-of_selected (selected.Refused q) = refusal q
+abbrev pub of_selected : Result Grant Refusal → Said
+of_selected (Ok g) = values (grant_values g)
+of_selected (Err q) = refusal q
 
-abbrev pub of_opened : Opened → Said
-of_opened (opened.Granted g) = values (grant_values g)
-of_opened (opened.Refused q) = refusal q
+abbrev pub of_opened : Result Grant Refusal → Said
+of_opened (Ok g) = values (grant_values g)
+of_opened (Err q) = refusal q
 
 -- how many cells were cleared
-abbrev pub of_cleared : Cleared → Said
-of_cleared (cleared.Cells k) = values (k ∷ [])
-of_cleared (cleared.Refused q) = refusal q
+abbrev pub of_cleared : Result ℕ Refusal → Said
+of_cleared (Ok k) = values (k ∷ [])
+of_cleared (Err q) = refusal q
 
 -- free, held
-abbrev pub of_reported : Reported → Said
-of_reported (reported.Counted c) = values (c.free ∷ c.held ∷ [])
-of_reported (reported.Refused q) = refusal q
+abbrev pub of_reported : Result Totals Refusal → Said
+of_reported (Ok c) = values (c.free ∷ c.held ∷ [])
+of_reported (Err q) = refusal q
 
 -- ---- a call: the answer that was promised is told
 

@@ -1,16 +1,14 @@
 -- Each promise settles everything: any two results that it allows for one input are equal, number and array, table and list,
 -- byte for byte.
-use Rattle.std.specs.Prelude.{◌≡◌, List, ◌⊎◌, ℕ, ◌+◌, ◌-◌, ◌*◌, ◌/◌, ◌≤◌, ◌<◌, min, get_or}
+use Rattle.std.specs.Prelude.{◌≡◌, List, ◌⊎◌, ℕ, ◌+◌, ◌-◌, ◌*◌, ◌/◌, ◌≤◌, ◌<◌, min, get_or, Result, Ok, Err}
 use Rattle.std.proofs.Math.Path.{sym}
 use Rattle.std.proofs.Common.{ap, subst, ◌∙◌, inl, inr, arith, ext_get_or}
+use Rattle.rules.specs.declared.Refusal.{Refusal}
+use Rattle.rules.specs.declared.Yes.{Yes}
+use Rattle.rules.specs.declared.Grant.{Grant}
 use Rattle.rules.specs.declared.Wheel.{Wheel}
 use Rattle.rules.specs.declared.Record.{Record}
 use Rattle.rules.specs.declared.Call.{Call}
-use Rattle.rules.specs.declared.Answer.{Answer}
-use Rattle.rules.specs.declared.Answer.TheVariants as answer
-use Rattle.rules.specs.declared.Cleared.{Cleared}
-use Rattle.rules.specs.declared.Opened.{Opened}
-use Rattle.rules.specs.declared.Opened.TheVariants as opened
 use Rattle.rules.specs.Paths.{Chip, chip_of, Stamped}
 use Rattle.rules.specs.Numbers.{number}
 use Rattle.rules.specs.Orders.{report_order, open_order, closing}
@@ -106,11 +104,11 @@ module _ (k l : ℕ) (v v₁ v₂ : List ℕ) where
     module _ (t₁ t₂ b₁ b₂ : List ℕ) where
       -- ---- closing
 
-      bytes_unique : (call : Call) (a : Answer) → Leaves chip t b call b₁ a → Leaves chip t b call b₂ a → b₁ ≡ b₂
-      bytes_unique call (answer.Done y) p q = written_unique b (64 * (call.flow - 1)) _ b₁ b₂ p q
-      bytes_unique call (answer.Refused r) p q = p ∙ sym q
+      bytes_unique : (call : Call) (a : Result Yes Refusal) → Leaves chip t b call b₁ a → Leaves chip t b call b₂ a → b₁ ≡ b₂
+      bytes_unique call (Ok y) p q = written_unique b (64 * (call.flow - 1)) _ b₁ b₂ p q
+      bytes_unique call (Err r) p q = p ∙ sym q
 
-      closed : (f : ℕ) (x y : Cleared) → ClosesBytes chip t b f t₁ b₁ x → ClosesBytes chip t b f t₂ b₂ y → Settled x y t₁ t₂ (list_in b₁) (list_in b₂)
+      closed : (f : ℕ) (x y : Result ℕ Refusal) → ClosesBytes chip t b f t₁ b₁ x → ClosesBytes chip t b f t₂ b₂ y → Settled x y t₁ t₂ (list_in b₁) (list_in b₂)
       unfolding Closes
       closed f x y p q = closes_unique chip t (count_of b) (list_in b) f t₁ t₂ (list_in b₁) (list_in b₂) x y p.answers q.answers
 
@@ -130,24 +128,24 @@ module _ (k l : ℕ) (v v₁ v₂ : List ℕ) where
       -- ---- opening
 
       module _ (path : List ℕ) (m f W D : ℕ) where
-        opened_same : (x y : Opened) → OpensGiven chip t b path m f W D t₁ b₁ x → OpensGiven chip t b path m f W D t₂ b₂ y
+        opened_same : (x y : Result Grant Refusal) → OpensGiven chip t b path m f W D t₁ b₁ x → OpensGiven chip t b path m f W D t₂ b₂ y
             → (x ≡ y) × (t₁ ≡ t₂) × (b₁ ≡ b₂)
-        opened_same (opened.Granted g) (opened.Granted h) p q =
+        opened_same (Ok g) (Ok h) p q =
             let order = open_order chip t (count_of b) (list_in b) path m f (asks W D) in
             let e = grants_unique g h p.grants q.grants in
             let long = (stable (tabled_decided chip.channels t) (passed order 2 p.passes)).long in (
-              ap opened.Granted e,
+              ap Ok e,
               stamped_unique chip path m h.slots chip.channels f t t₁ t₂ long
                   (subst (λ x. Stamped chip path m x.slots f t t₁) e p.table) q.table,
               written_unique b (64 * (f - 1)) (open_record path m h.slots (asks W (min D 65535))) b₁ b₂
                   (subst (λ x. Written b (64 * (f - 1)) (open_record path m x.slots (asks W (min D 65535))) b₁) e p.list) q.list,
             )
-        opened_same (opened.Granted g) (opened.Refused r) p q =
+        opened_same (Ok g) (Err r) p q =
             absurd (passes_not (open_order chip t (count_of b) (list_in b) path m f (asks W D)) (number r) p.passes q.refuses)
-        opened_same (opened.Refused r) (opened.Granted g) p q =
+        opened_same (Err r) (Ok g) p q =
             absurd (passes_not (open_order chip t (count_of b) (list_in b) path m f (asks W D)) (number r) q.passes p.refuses)
-        opened_same (opened.Refused r) (opened.Refused s) p q = (
-          ap opened.Refused (same_number r s (settled (open_order chip t (count_of b) (list_in b) path m f (asks W D)) (number r) (number s) p.refuses q.refuses)),
+        opened_same (Err r) (Err s) p q = (
+          ap Err (same_number r s (settled (open_order chip t (count_of b) (list_in b) path m f (asks W D)) (number r) (number s) p.refuses q.refuses)),
           p.table ∙ sym q.table,
           p.list ∙ sym q.list,
         )

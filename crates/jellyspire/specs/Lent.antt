@@ -1,17 +1,17 @@
 -- The promises over a lent list, whose length is the number of its records, and the way from one record to the list: the
 -- check goes on from record to record; the record that is read at a flow's place is the flow's; and what is put in place
 -- after a decision is what document 01 asks.
-use Rattle.std.specs.Prelude.{◌≡◌, refl, Bool, true, false, cond, List, ◌⊎◌, ℕ, ◌+◌, ◌-◌, ◌*◌, ◌≤◌, ◌<◌, length, set}
+use Rattle.std.specs.Prelude.{◌≡◌, refl, Bool, true, false, cond, List, ◌⊎◌, ℕ, ◌+◌, ◌-◌, ◌*◌, ◌≤◌, ◌<◌, length, set, Result}
 use Rattle.std.proofs.Common.{sym, subst, ◌∙◌, inl, inr, arith, lt-ltb, le-ltb}
+use Rattle.rules.specs.declared.Refusal.{Refusal}
+use Rattle.rules.specs.declared.Yes.{Yes}
+use Rattle.rules.specs.declared.Totals.{Totals}
+use Rattle.rules.specs.declared.Grant.{Grant}
 use Rattle.rules.specs.Tells.{Tells}
 use Rattle.rules.specs.declared.Wheel.{Wheel}
 use Rattle.rules.specs.declared.Demand.{Demand}
 use Rattle.rules.specs.declared.Record.{Record}
 use Rattle.rules.specs.declared.Call.{Call}
-use Rattle.rules.specs.declared.Answer.{Answer}
-use Rattle.rules.specs.declared.Opened.{Opened}
-use Rattle.rules.specs.declared.Cleared.{Cleared}
-use Rattle.rules.specs.declared.Reported.{Reported}
 use Rattle.rules.specs.Wheels.{Legal}
 use Rattle.rules.specs.Paths.{Chip, chip_of}
 use Rattle.rules.specs.Flows.{flow, Own}
@@ -33,20 +33,20 @@ module _ (chip : Chip) (t : List ℕ) (list : List Record) where
   abbrev pub ChecksLent : Checked → Type 0
   ChecksLent = Checks chip t (length list) list (length list)
 
-  abbrev pub PerformsLent : Call → List ℕ → List Record → Answer → Type 0
+  abbrev pub PerformsLent : Call → List ℕ → List Record → Result Yes Refusal → Type 0
   PerformsLent = Performs chip t (length list) list
 
 module _ (w : Wheel) (t : List ℕ) (list : List Record) where
   abbrev pub AgreesLent : Type 0
   AgreesLent = Agrees (chip_of w t) t (length list) list
 
-  abbrev pub ReportsLent : Reported → Type 0
+  abbrev pub ReportsLent : Result Totals Refusal → Type 0
   ReportsLent = Reports (chip_of w t) t (length list) list
 
-  abbrev pub OpensLent : List ℕ → ℕ → ℕ → Demand → List ℕ → List Record → Opened → Type 0
+  abbrev pub OpensLent : List ℕ → ℕ → ℕ → Demand → List ℕ → List Record → Result Grant Refusal → Type 0
   OpensLent = Opens (chip_of w t) t (length list) list
 
-  abbrev pub ClosesLent : ℕ → List ℕ → List Record → Cleared → Type 0
+  abbrev pub ClosesLent : ℕ → List ℕ → List Record → Result ℕ Refusal → Type 0
   ClosesLent = Closes (chip_of w t) t (length list) list
 
 -- ---- one record
@@ -121,15 +121,15 @@ module _ (chip : Chip) (t : List ℕ) (n : ℕ) (list : List Record) (long : len
 
 -- ---- opening and closing, the call being made from what was asked
 
-module _ (w : Wheel) (t : List ℕ) (list : List Record) (chip : Chip) (chip-is : chip ≡ chip_of w t) (t' : List ℕ) (list' : List Record) (a : Answer) where
+module _ (w : Wheel) (t : List ℕ) (list : List Record) (chip : Chip) (chip-is : chip ≡ chip_of w t) (t' : List ℕ) (list' : List Record) (a : Result Yes Refusal) where
   pub opens_lent : (path : List ℕ) (m f : ℕ) (d : Demand) (call : Call) → call ≡ opening path m f d → PerformsLent chip t list call t' list' a
-      → (o : Opened) → o ≡ to_opened a → OpensLent w t list path m f d t' list' o
+      → (o : Result Grant Refusal) → o ≡ to_opened a → OpensLent w t list path m f d t' list' o
   opens_lent path m f d call made p o e =
       subst (OpensLent w t list path m f d t' list') (sym e)
       (as_opens (chip_of w t) t (length list) list t' list' path m f d a
       (subst (λ x. PerformsLent x t list (opening path m f d) t' list' a) chip-is (subst (λ x. PerformsLent chip t list x t' list' a) made p)))
 
-  pub closes_lent : (f : ℕ) (call : Call) → call ≡ closing f → PerformsLent chip t list call t' list' a → (o : Cleared) → o ≡ to_cleared a
+  pub closes_lent : (f : ℕ) (call : Call) → call ≡ closing f → PerformsLent chip t list call t' list' a → (o : Result ℕ Refusal) → o ≡ to_cleared a
       → ClosesLent w t list f t' list' o
   closes_lent f call made p o e =
       subst (ClosesLent w t list f t' list') (sym e)
@@ -138,7 +138,7 @@ module _ (w : Wheel) (t : List ℕ) (list : List Record) (chip : Chip) (chip-is 
 
 -- the report, the chip being made from wheel and table
 pub reports_lent : (w : Wheel) (t : List ℕ) (n : ℕ) (list : List Record) → length list ≡ n → (chip : Chip) → chip ≡ chip_of w t
-    → (c : Checked) (a : Bool) (r : Reported) → Checks chip t n list n c → Tells a ((c.ok ≡ true) × (used_cells t ≡ c.held))
+    → (c : Checked) (a : Bool) (r : Result Totals Refusal) → Checks chip t n list n c → Tells a ((c.ok ≡ true) × (used_cells t ≡ c.held))
     → ReportsOne chip t n (a ≡ false) c.held r → ReportsLent w t list r
 reports_lent w t n list long chip made c a r k told p =
     subst (λ x. Reports x t (length list) list r) made

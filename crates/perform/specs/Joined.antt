@@ -1,17 +1,16 @@
 -- From one record to the list: `agreed` tells whether table and list agree, r is the flow's record, and the list afterwards has
 -- the new record in its place.
-use Rattle.std.specs.Prelude.{◌≡◌, refl, Bool, false, cond, List, ◌⊎◌, ℕ, ◌-◌, ◌≤◌, ◌<◌, set}
+use Rattle.std.specs.Prelude.{◌≡◌, refl, Bool, false, cond, List, ◌⊎◌, ℕ, ◌-◌, ◌≤◌, ◌<◌, set, Result, Ok, Err}
 use Rattle.std.proofs.Common.{sym, ap, ◌∙◌, subst, inl, inr, arith}
 use Rattle.std.proofs.Math.Bool.{true}
+use Rattle.rules.specs.declared.Refusal.{Refusal}
+use Rattle.rules.specs.declared.Yes.{Yes}
+use Rattle.rules.specs.declared.Totals.{Totals}
 use Rattle.rules.specs.Tells.{Tells}
 use Rattle.rules.specs.declared.Demand.{Demand}
 use Rattle.rules.specs.declared.Record.{Record}
 use Rattle.rules.specs.declared.Call.{Call}
 use Rattle.rules.specs.declared.Yes.TheVariants as yes
-use Rattle.rules.specs.declared.Answer.{Answer}
-use Rattle.rules.specs.declared.Answer.TheVariants as answer
-use Rattle.rules.specs.declared.Reported.{Reported}
-use Rattle.rules.specs.declared.Reported.TheVariants as reported
 use Rattle.rules.specs.Paths.{Chip}
 use Rattle.rules.specs.Flows.{flow, held_cells, Own, Agree}
 use Rattle.rules.specs.Numbers.{number}
@@ -59,15 +58,15 @@ module _ (chip : Chip) (t : List ℕ) (n : ℕ) (list : List Record) (agreed : B
       (λ g. not_true_false agreed (λ e. g (tells.yes e).agree))
       λ _. alike_self _
 
-  pub reports_joined : (held : ℕ) (a : Reported) → (agreed ≡ true → held ≡ held_cells chip.wheel n list) → ReportsOne chip t n (agreed ≡ false) held a
+  pub reports_joined : (held : ℕ) (a : Result Totals Refusal) → (agreed ≡ true → held ≡ held_cells chip.wheel n list) → ReportsOne chip t n (agreed ≡ false) held a
       → Reports chip t n list a
   unfolding Reports ReportsOne
-  reports_joined held (reported.Counted c) h p =
+  reports_joined held (Ok c) h p =
       let yes = not_false_true agreed (passed (checked chip t n (agreed ≡ false)) 4 p.0) in
       let agrees = tells.yes yes in
       let all = free_and_held chip t n list agrees.ready.legal agrees.agree in
       (passes_alike _ _ begins p.0, omega (arith, p.2, h yes, all), p.1 ∙ h yes)
-  reports_joined held (reported.Refused q) h p = refuses_alike _ _ (number q) begins p
+  reports_joined held (Err q) h p = refuses_alike _ _ (number q) begins p
 
   module _ (r : Record) (call : Call) (same : RecordOf list n call.flow r) where
     pub own_told : agreed ≡ true → Own chip r.state r
@@ -87,37 +86,37 @@ module _ (chip : Chip) (t : List ℕ) (n : ℕ) (list : List Record) (agreed : B
       unfolding Settles
       stored_at e = go o.answer p.decides (sym p.go ∙ e)
         where
-          go : (a : Answer) → Decides chip t n (agreed ≡ false) r call call.verb a
+          go : (a : Result Yes Refusal) → Decides chip t n (agreed ≡ false) r call call.verb a
               → is_done a ≡ true → (o.at < n) × (n ≤ 64) × (r ≡ flow list (call.flow - 1))
-          go (answer.Done y) d e =
+          go (Ok y) d e =
               let (one, most) = named chip t n _ _ call call.verb d.0 in
               let few = (checked_ready chip t n _ (passes_front (checked chip t n (agreed ≡ false)) _ d.0)).listed.most in
               (omega (arith, p.at, one, most), few, found few one most)
-          go (answer.Refused q) d e = absurd (not_both e refl)
+          go (Err q) d e = absurd (not_both e refl)
 
       pub performs_joined : (list' : List Record) → list' ≡ cond o.go (set list o.at o.new) list → Performs chip t n list call t' list' o.answer
       unfolding Settles
       performs_joined list' e = go o.answer p.decides p.go p.new p.marks
         where
-          go : (a : Answer) → Decides chip t n (agreed ≡ false) r call call.verb a → o.go ≡ is_done a → o.new ≡ (change_of r call a).new
+          go : (a : Result Yes Refusal) → Decides chip t n (agreed ≡ false) r call call.verb a → o.go ≡ is_done a → o.new ≡ (change_of r call a).new
               → MarksIf chip o.go (change_of r call a) t t' → Performs chip t n list call t' list' a
-          go (answer.Done y) d done new marks =
+          go (Ok y) d done new marks =
               let is = (stored_at done).2 in
               (passes_alike _ _ alike d.0, rw (← is) d.1, rw (← is) (marks.marked done), e ∙ rw (done, p.at, new, is))
-          go (answer.Refused q) d done new marks = (refuses_alike _ _ (number q) alike d, marks.kept done, e ∙ rw done)
+          go (Err q) d done new marks = (refuses_alike _ _ (number q) alike d, marks.kept done, e ∙ rw done)
 
 -- ---- a call's answer in the words of an opening, and of a closing
 
 module _ (chip : Chip) (t : List ℕ) (n : ℕ) (list : List Record) (t' : List ℕ) (list' : List Record) where
-  pub as_opens : (path : List ℕ) (m f : ℕ) (d : Demand) (a : Answer) → Performs chip t n list (opening path m f d) t' list' a
+  pub as_opens : (path : List ℕ) (m f : ℕ) (d : Demand) (a : Result Yes Refusal) → Performs chip t n list (opening path m f d) t' list' a
       → Opens chip t n list path m f d t' list' (to_opened a)
   unfolding Opens
-  as_opens path m f d (answer.Done (yes.Granted g)) p = p
-  as_opens path m f d (answer.Done (yes.Cells k)) p = absurd p.1
-  as_opens path m f d (answer.Refused q) p = p
+  as_opens path m f d (Ok (yes.Granted g)) p = p
+  as_opens path m f d (Ok (yes.Cells k)) p = absurd p.1
+  as_opens path m f d (Err q) p = p
 
-  pub as_closes : (f : ℕ) (a : Answer) → Performs chip t n list (closing f) t' list' a → Closes chip t n list f t' list' (to_cleared a)
+  pub as_closes : (f : ℕ) (a : Result Yes Refusal) → Performs chip t n list (closing f) t' list' a → Closes chip t n list f t' list' (to_cleared a)
   unfolding Closes
-  as_closes f (answer.Done (yes.Granted g)) p = absurd p.1
-  as_closes f (answer.Done (yes.Cells k)) p = p
-  as_closes f (answer.Refused q) p = p
+  as_closes f (Ok (yes.Granted g)) p = absurd p.1
+  as_closes f (Ok (yes.Cells k)) p = p
+  as_closes f (Err q) p = p

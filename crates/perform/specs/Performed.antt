@@ -1,19 +1,17 @@
 -- What a call does when it sees one record of the list and is told of the rest only whether it agrees with the table: what
 -- it decides, what it writes into the table, and which record it hands back. `disagree` is 4's condition.
-use Rattle.std.specs.Prelude.{◌≡◌, refl, Bool, true, false, List, ℕ, ◌-◌, ◌*◌, ◌≤◌}
+use Rattle.std.specs.Prelude.{◌≡◌, refl, Bool, true, false, List, ℕ, ◌-◌, ◌*◌, ◌≤◌, Result, Ok, Err}
 use Rattle.std.proofs.Common.{sym, arith}
 use Rattle.std.proofs.Math.Path.{subst}
+use Rattle.rules.specs.declared.Refusal.{Refusal}
+use Rattle.rules.specs.declared.Totals.{Totals}
 use Rattle.rules.specs.declared.Record.{Record}
 use Rattle.rules.specs.declared.Call.{Call}
 use Rattle.rules.specs.declared.Verb.{Verb}
 use Rattle.rules.specs.declared.Verb.TheVariants.{ToOpen, ToClose}
 use Rattle.rules.specs.declared.Yes.{Yes}
 use Rattle.rules.specs.declared.Yes.TheVariants as yes
-use Rattle.rules.specs.declared.Answer.{Answer}
-use Rattle.rules.specs.declared.Answer.TheVariants as answer
 use Rattle.rules.specs.declared.Change.{Change}
-use Rattle.rules.specs.declared.Reported.{Reported}
-use Rattle.rules.specs.declared.Reported.TheVariants as reported
 use Rattle.rules.specs.Wheels.{Legal}
 use Rattle.rules.specs.Paths.{Chip}
 use Rattle.rules.specs.Flows.{Own}
@@ -29,14 +27,14 @@ use Rattle.changes.specs.Changes.{change_of}
 use Rattle.perform.specs.declared.Decision.{Decision}
 
 -- whether a call is granted
-abbrev pub is_done : Answer → Bool
-is_done (answer.Done y) = true
-is_done (answer.Refused q) = false
+abbrev pub is_done : Result Yes Refusal → Bool
+is_done (Ok y) = true
+is_done (Err q) = false
 
 -- a change that can be written: its path can be walked, and its value is a cell's
 pub record Markable (chip : Chip) (t : List ℕ) (c : Change) : Type 0 where
   pub legal : Legal chip.wheel
-  pub walkable : Walkable chip t c.path c.len
+  pub walkable : Walkable chip t c.path.entries c.path.len
   pub small : c.value ≤ 64
 
 -- a change is written, if `go`; otherwise no byte is
@@ -52,10 +50,10 @@ pub record PerformsOne (chip : Chip) (t : List ℕ) (n : ℕ) (disagree : Type 0
   pub marks : MarksIf chip o.go (change_of r call o.answer) t t'
 
 -- the report, from the number of cells that the records claim
-unfoldable pub ReportsOne : Chip → List ℕ → ℕ → Type 0 → ℕ → Reported → Type 0
-ReportsOne chip t n disagree held (reported.Counted c) =
+unfoldable pub ReportsOne : Chip → List ℕ → ℕ → Type 0 → ℕ → Result Totals Refusal → Type 0
+ReportsOne chip t n disagree held (Ok c) =
     Passes (checked chip t n disagree) × (c.held ≡ held) × (c.free ≡ chip.channels * chip.wheel.n - held)
-ReportsOne chip t n disagree held (reported.Refused q) = Refuses (checked chip t n disagree) (number q)
+ReportsOne chip t n disagree held (Err q) = Refuses (checked chip t n disagree) (number q)
 
 -- a call that is granted has a change that can be written, by the verb
 module _ (chip : Chip) (t : List ℕ) (n : ℕ) (agreed : Bool) (r : Record) (call : Call) (own : agreed ≡ true → Own chip r.state r) where
@@ -80,8 +78,8 @@ module _ (chip : Chip) (t : List ℕ) (n : ℕ) (agreed : Bool) (r : Record) (ca
             small = omega arith;
           }
 
-  pub done_markable : (a : Answer) → Decides chip t n (agreed ≡ false) r call call.verb a
+  pub done_markable : (a : Result Yes Refusal) → Decides chip t n (agreed ≡ false) r call call.verb a
       → is_done a ≡ true → (c : Change) → c ≡ change_of r call a → Markable chip t c
   unfolding Settles
-  done_markable (answer.Done y) p e c is = subst (Markable chip t) (sym is) (markable call.verb y p.0 p.1)
-  done_markable (answer.Refused q) p e c is = absurd (not_both e refl)
+  done_markable (Ok y) p e c is = subst (Markable chip t) (sym is) (markable call.verb y p.0 p.1)
+  done_markable (Err q) p e c is = absurd (not_both e refl)
