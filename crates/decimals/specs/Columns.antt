@@ -1,11 +1,11 @@
 -- Reading fields one by one. What was read so far is spelled in front of what is left; and whatever numbers the whole
 -- spells, what is left spells those of them that were not read yet. So where the next field fails, nothing is spelled.
 use Rattle.std.specs.Prelude.{◌≡◌, refl, List, [], ◌∷◌, ◌++◌, ℕ, ◌+◌, ◌≤◌, ◌<◌, length, get_or, take, drop, set}
-use Rattle.std.proofs.Common.{sym, ap, ◌∙◌, append-nil, arith, add-one, length-set, take-suc-set, length-take-le}
+use Rattle.std.proofs.Common.{sym, ap, ◌∙◌, arith, add-one, length-set, take-suc-set}
 use Rattle.grammar.specs.Text.{decimal, field, fields}
 use Rattle.grammar.specs.Commands.{Few}
 use Rattle.grammar.specs.Spelling.{few_none, few_head, few_tail, few_more, fields_more, fields_begin, take_field}
-use Rattle.decimals.specs.Meaning.{NumberAt, NoNumber, FieldsAt, NoFields}
+use Rattle.decimals.specs.Meaning.{NumberAt, NoNumber, NoFields}
 
 -- what is left, after `count` fields
 pub record Rest (count : ℕ) (rest : List ℕ) : Type 0 where

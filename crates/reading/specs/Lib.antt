@@ -1,5 +1,5 @@
 pub mod Meaning
 pub mod Verbs
-pub mod Paths
 pub mod Orders
-pub mod Told
+pub mod Paths
+pub mod Breaks
