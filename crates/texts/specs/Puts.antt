@@ -49,3 +49,7 @@ room_first old a b h = omega (arith, length-append a b)
 pub room_second : {old mid : Page} (a b : List ℕ) → Puts old a mid → Room old (a ++ b) → Room mid b
 room_second {old} {mid} a b f h =
     omega (arith, length-append a b, f.len, puts_length a f (room_first old a b h))
+
+-- the same room for the same text
+pub room_same : (p : Page) (a b : List ℕ) → a ≡ b → Room p a → Room p b
+room_same p a b e h = rw e at h
