@@ -3,3 +3,4 @@ pub mod Verbs
 pub mod Orders
 pub mod Paths
 pub mod Breaks
+pub mod Told
