@@ -1,6 +1,6 @@
 -- A text's first line by its first line feed.
 use Rattle.std.specs.Prelude.{◌≡◌, refl, Bool, true, false, cond, Some, None, List, [], ◌∷◌, ℕ, ◌+◌, ◌-◌, ◌<◌, eqb, nat_lt, length, get_or, take, drop, position}
-use Rattle.std.proofs.Common.{sym, ap, ◌∙◌, arith, eq-eqb, ltb-false, length-drop, length-take-le}
+use Rattle.std.proofs.Common.{sym, ap, ◌∙◌, arith, eq-eqb, ltb-false, length-drop, length-take-le, drop_of_length-le}
 use Rattle.std.proofs.Math.Seq.{take-length}
 use Rattle.std.proofs.lemmas.Bool.{eqb-true}
 use Rattle.std.proofs.lemmas.List.Quantifiers.{position-Some}
@@ -25,8 +25,12 @@ pub first_then : (text : List ℕ) (i : ℕ) → Some i ≡ position (λ b. eqb 
 first_then text i e =
     let at = position-Some feed text i 0 (sym e) in
     let long : length (drop (i + 1) text) ≡ length text - (i + 1) = length-drop (i + 1) text in
+    let end : length (take i text) ≡ i = length-take-le i text (omega (arith, at.0)) in
+    let next : length text - length (drop (i + 1) text) ≡ i + 1 = omega (arith, at.0) in
     rw (take_rest (i + 1) text)
     (record {
+      front = ap (λ n. take n text) (sym end);
+      back = ap (λ n. drop n text) (sym next);
       on = omega (arith, at.0);
       short = omega (arith, at.0, length-take-le i text);
       split = line_then text i at.0 (eqb-true (get_or text i 0) 10 at.1) (λ k l. no_feed (get_or text k 0) (at.2 k l));
@@ -49,4 +53,10 @@ some [] e = absurd cc
 some (c ∷ cs) e = omega arith
 
 pub first_last : (text : List ℕ) → false ≡ eqb (length text) 0 → None ≡ position (λ b. eqb b 10) text → First text text []
-first_last text e none = record { on = some text e; short = omega arith; split = line_last text (some text e) (clear text none) }
+first_last text e none = record {
+  front = sym (take-length text);
+  back = sym (drop_of_length-le text {i = length text - 0} (omega arith));
+  on = some text e;
+  short = omega arith;
+  split = line_last text (some text e) (clear text none);
+}

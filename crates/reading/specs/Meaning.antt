@@ -1,5 +1,5 @@
 -- What the functions that read a line promise.
-use Rattle.std.specs.Prelude.{◌≡◌, Option, Some, None, MatchOption, List, [], ◌∷◌, ℕ, ◌+◌, ◌≤◌, ◌<◌, length}
+use Rattle.std.specs.Prelude.{◌≡◌, Option, Some, None, MatchOption, List, [], ◌∷◌, ℕ, ◌+◌, ◌-◌, ◌≤◌, ◌<◌, length, take, drop}
 use Rattle.std.specs.Borrow.{Bor}
 use Rattle.std.proofs.Common.{sym, ap, ◌∙◌}
 use Rattle.rules.specs.declared.Path.{Path}
@@ -10,8 +10,10 @@ use Rattle.grammar.specs.Spelling.{reads_once}
 use Rattle.reading.specs.declared.Request.{Request}
 use Rattle.reading.specs.declared.Request.TheVariants as request
 
--- a text's first line, without its line feed, and the text behind it
+-- a text's first line, without its line feed, and the text behind it: the one stands at the text's start, the other at its end
 pub record First (text line rest : List ℕ) : Type 0 where
+  pub front : line ≡ take (length line) text
+  pub back : rest ≡ drop (length text - length rest) text
   pub on : length rest < length text
   pub short : length line + length rest ≤ length text
   pub split : lines text ≡ line ∷ lines rest

@@ -1,13 +1,7 @@
 -- The slots of a set, printed one by one in rising order.
-use Rattle.std.specs.Prelude.{◌≡◌, Bool}
-use Rattle.std.proofs.Math.Path.{sym, ap}
-use Rattle.std.proofs.Common.{◌∙◌, add-zero, zero-add, add-suc, add-one}
-use Rattle.std.proofs.Math.Bool.{true, false, cond}
-use mathlib.Core.List.{List, [], ◌∷◌, ◌++◌, append-nil}
-use Prim.Native.Nat.{ℕ, zero, suc, ◌+◌, ◌≤◌, ◌<◌}
-use native.Mathlib.Omega.{arith}
+use Rattle.std.specs.Prelude.{◌≡◌, Bool, true, false, cond, List, [], ◌∷◌, ◌++◌, ℕ, zero, suc, ◌+◌, ◌≤◌, ◌<◌, length}
+use Rattle.std.proofs.Common.{sym, ap, ◌∙◌, arith, append-nil, add-zero, zero-add, add-suc, add-one, length-append}
 use Rattle.std.proofs.Math.Nat.{suc-add}
-use Rattle.std.proofs.Math.ListN.{length, length-append}
 use Rattle.rules.specs.Sets.{places}
 use Rattle.grammar.specs.Text.{field, fields}
 use Rattle.grammar.specs.Spelling.{fields_append}
