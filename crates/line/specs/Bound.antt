@@ -1,9 +1,11 @@
 -- A bound that needs no table. Every header brings at most P slots, the first one no more than the free run at the start,
 -- and every header but the first is needed for a gap of at most L; so k slots pay at least a certain number of headers and
 -- cannot deliver more than what these leave. Starts that cannot win are passed over by this bound.
-use Rattle.std.specs.Prelude.{◌≡◌, refl, Bool, cond, ◌⊎◌, length, true, false, List, [], ◌∷◌, ℕ, zero, suc, ◌+◌, ◌-◌, ◌*◌, ◌/◌, ◌≤◌, ◌<◌, min}
-use Rattle.std.proofs.Common.{◌∙◌, inl, inr, mul-le-mul_right, div-lt_iff_lt-mul, ap, arith, mod-lt}
+use Rattle.std.specs.Prelude.{◌≡◌, refl, Bool, cond, ◌⊎◌, length, true, false, List, [], ◌∷◌, ℕ, zero, suc, ◌+◌, ◌-◌, ◌*◌, ◌/◌, ◌%◌, ◌≤◌, ◌<◌, min}
+use Rattle.std.proofs.Common.{◌∙◌, inl, inr, mul-le-mul_right, ap, arith, mod-lt}
 use Rattle.rules.specs.Sets.{stretch}
+use Rattle.std.proofs.lemmas.Grind.{div_ceil_times}
+use Rattle.laws.specs.Logic.{le_or_lt}
 use Rattle.laws.specs.Counting.{stretch_stops}
 use Rattle.laws.specs.Reading.{flags, count, gain, next, next_case, line_words}
 use Rattle.laws.specs.Runs.{line}
@@ -190,8 +192,11 @@ most_left t f k c h v z =
     omega (arith, z.words)
 
 -- a / b, rounded up, is the least c with a ≤ c * b
-pub ceil_least : (a b : ℕ) → 1 ≤ b → (c : ℕ) → a ≤ c * b → (a + b - 1) / b ≤ c
-ceil_least a b h c e =
-    let q : a + b - 1 < suc c * b = omega arith in
-    let r = (div-lt_iff_lt-mul {k = b} {x = a + b - 1} {y = suc c} h).1 q in
-    omega arith
+pub ceil_least : (a b c r : ℕ) → r ≡ a / b + min 1 (a % b) → 1 ≤ b → a ≤ c * b → r ≤ c
+ceil_least a b c r e h l = go (le_or_lt r c)
+  where
+    go : (r ≤ c) ⊎ (c < r) → r ≤ c
+    go (inl d) = d
+    go (inr d) =
+        let more : (c + 1) * b ≤ r * b = mul-le-mul_right b (omega arith) in
+        omega (arith, div_ceil_times a b h, ap (λ i. i * b) e)
