@@ -41,7 +41,15 @@ impl Board {
         requires { RoomFor 83 page.old }
         ensures { OpenLine flow demand path (state self.old) (state self.new) page.old page.new }
     {
-        let answer = bytes_calls::open(&mut self.table, &mut self.list, WHEEL, flow, path, demand);
+        let answer = bytes_calls::open(
+            &mut self.table,
+            &mut self.list,
+            WHEEL,
+            flow,
+            path.entries,
+            path.len,
+            demand,
+        );
         printing::put_open(page, flow, answer);
     }
 
