@@ -1,15 +1,37 @@
 -- What the steps of the measures compute, one slot at a time.
-use Rattle.std.specs.Prelude.{◌≡◌, refl, Bool, true, false, not, cond, eqb, ℕ, zero, suc, min, ◌+◌, ◌-◌, ◌*◌, ◌/◌, ◌%◌, ◌^◌, ◌≤◌, ◌<◌}
+use Rattle.std.specs.Prelude.{◌≡◌, refl, Bool, true, false, not, cond, ◌⊎◌, eqb, ℕ, zero, suc, min, ◌+◌, ◌-◌, ◌*◌, ◌/◌, ◌%◌, ◌^◌, ◌≤◌, ◌<◌}
 use Rattle.std.specs.Int.{bit_at, bit_not, w64}
-use Rattle.std.proofs.Common.{sym, ap, ◌∙◌, arith, mod-eq_of_lt, mod-lt}
-use Rattle.std.proofs.Math.Nat.{add-mod_right, div-eq_of_lt-le}
+use Rattle.std.proofs.Common.{sym, ap, ◌∙◌, inl, inr, arith, add-one, mod-eq_of_lt, mod-lt}
+use Rattle.std.proofs.Math.Nat.{mod_self, add-mod_right, div-eq_of_lt-le}
 use Rattle.std.proofs.lemmas.Grind.{div_ceil_times}
 use Rattle.std.proofs.lemmas.Nat.Bits.{bit_at_not, bit_at-lt}
 use Rattle.rules.specs.declared.Wheel.{Wheel}
 use Rattle.rules.specs.Sets.{has, stretch}
 use Rattle.rules.specs.Wheels.{Legal, ceil, chosen, start, run, run_words, words_at}
-use Rattle.laws.specs.Counting.{stretch_le}
+use Rattle.laws.specs.Logic.{le_or_lt}
+use Rattle.laws.specs.Counting.{stretch_le, stretch_turn}
+use Rattle.laws.specs.Turns.{chosen_turn}
 use Rattle.laws.specs.Bounds.{run_words_most}
+
+-- slot j is chosen, or not chosen, as wanted
+unfoldable pub as_wanted : ℕ → ℕ → Bool → ℕ → Bool
+as_wanted N x wanted j = cond wanted (chosen N x j) (not (chosen N x j))
+
+-- a stretch that begins at the slot after i
+pub stretch_after : (N x i m : ℕ) (wanted : Bool) → i < N → stretch (as_wanted N x wanted) ((i + 1) % N) m ≡ stretch (as_wanted N x wanted) (suc i) m
+unfolding as_wanted
+stretch_after N x i m wanted h = go (le_or_lt N (i + 1))
+  where
+    turn : (j : ℕ) → as_wanted N x wanted (j + N) ≡ as_wanted N x wanted j
+    turn j = rw (chosen_turn N x j)
+
+    go : (N ≤ i + 1) ⊎ (i + 1 < N) → stretch (as_wanted N x wanted) ((i + 1) % N) m ≡ stretch (as_wanted N x wanted) (suc i) m
+    go (inr l) = rw (mod-eq_of_lt l, add-one i)
+    go (inl l) =
+        let e : i + 1 ≡ N = omega arith in
+        let wrapped : (i + 1) % N ≡ 0 = ap (λ k. k % N) e ∙ mod_self N in
+        let last : suc i ≡ 0 + N = omega arith in
+        rw (wrapped, last) (sym (stretch_turn (as_wanted N x wanted) N turn 0 m))
 
 -- the wheel written down twice
 pub first_turn : (on n : ℕ) → on < n → on ≡ on % n
