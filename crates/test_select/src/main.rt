@@ -7,7 +7,7 @@
 ghost use Rattle.std.specs.Prelude.{◌≡◌, ◌≤◌};
 
 use apart::{Asked, Grant, Listed};
-use rules::{Selected, Wheel, Words};
+use rules::{Refusal, Wheel, Words};
 use std::io;
 
 // What a selection answers, of the library and of the searches apart: a grant, or a refusal's number.
@@ -42,14 +42,14 @@ impl Tally {
 }
 
 // What selection answers, in the form of the searches apart.
-fn answer(r: Selected) -> Answer {
-    match r {
-        Selected::Chosen(g) => Ok(Grant {
-            slots: g.slots,
-            count: g.count as u64,
-            words: u64::from(g.words.0),
+fn plain_answer(answer: Result<rules::Grant, Refusal>) -> Answer {
+    match answer {
+        Ok(set) => Ok(Grant {
+            slots: set.slots,
+            count: set.count as u64,
+            words: u64::from(set.words.0),
         }),
-        Selected::Refused(no) => Err(u64::from(numbers::number(no))),
+        Err(no) => Err(u64::from(numbers::number(no))),
     }
 }
 
@@ -67,7 +67,7 @@ fn wheel(n: usize, s: u16, h: u16, p: usize) -> Wheel
 
 // Bare selection on a wheel.
 fn select(w: Wheel, free: u64, words: u16, limit: u16) -> Answer {
-    answer(select::select(w, free, Words(words), limit))
+    plain_answer(select::select(w, free, Words(words), limit))
 }
 
 // Prints a line with an answer.
