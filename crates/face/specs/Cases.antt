@@ -10,14 +10,7 @@ use Rattle.rules.specs.Numbers.{number}
 use Rattle.rules.specs.Promises.{Reports, HasRow, Row}
 use Rattle.laws.specs.Logic.{le_or_lt}
 use Rattle.bytes_calls.specs.OverBytes.{ReportsBytes}
-use Rattle.face.specs.Told.{Said, Told}
 use Rattle.face.specs.Calls.{Agreeing, Rowing}
-
--- ---- an answer
-
-module _ {A : Type 0} (ofAnswer : A → Said) (a : A) (k : ℕ) (v v' : List ℕ) where
-  pub told_as : (b : A) → a ≡ b → Told (ofAnswer b) k v v' → Told (ofAnswer a) k v v'
-  told_as b e t = rw e t
 
 -- ---- agreement
 

@@ -5,43 +5,31 @@ use Rattle.rules.specs.declared.Grant.{Grant}
 use Rattle.rules.specs.declared.Refusal.{Refusal}
 use Rattle.rules.specs.Numbers.{number}
 
--- what is said: the values of a yes, or a refusal
-pub data Said : Type 0 where
-  values : List ℕ → Said
-  refusal : Refusal → Said
+-- the values of a yes, or a refusal: the number k is returned, and the array is v before and v' after
+abbrev pub Told : Result (List ℕ) Refusal → ℕ → List ℕ → List ℕ → Type 0
+Told (Ok xs) k v v' = (k ≡ 0) × (v' ≡ xs)
+Told (Err q) k v v' = (k ≡ number q) × (v' ≡ v)
 
--- the number k is returned, and the array is v before and v' after
-abbrev pub Told : Said → ℕ → List ℕ → List ℕ → Type 0
-Told (values xs) k v v' = (k ≡ 0) × (v' ≡ xs)
-Told (refusal q) k v v' = (k ≡ number q) × (v' ≡ v)
-
--- ---- each answer
+-- ---- the values of each answer
 
 -- slots, their number, words
-abbrev pub grant_values : Grant → List ℕ
-grant_values g = g.slots ∷ g.count ∷ g.words.0 ∷ []
-
-abbrev pub of_selected : Result Grant Refusal → Said
-of_selected (Ok g) = values (grant_values g)
-of_selected (Err q) = refusal q
-
-abbrev pub of_opened : Result Grant Refusal → Said
-of_opened (Ok g) = values (grant_values g)
-of_opened (Err q) = refusal q
+abbrev pub of_granted : Result Grant Refusal → Result (List ℕ) Refusal
+of_granted (Ok g) = Ok (g.slots ∷ g.count ∷ g.words.0 ∷ [])
+of_granted (Err q) = Err q
 
 -- how many cells were cleared
-abbrev pub of_cleared : Result ℕ Refusal → Said
-of_cleared (Ok k) = values (k ∷ [])
-of_cleared (Err q) = refusal q
+abbrev pub of_cleared : Result ℕ Refusal → Result (List ℕ) Refusal
+of_cleared (Ok k) = Ok (k ∷ [])
+of_cleared (Err q) = Err q
 
 -- free, held
-abbrev pub of_reported : Result Totals Refusal → Said
-of_reported (Ok c) = values (c.free ∷ c.held ∷ [])
-of_reported (Err q) = refusal q
+abbrev pub of_reported : Result Totals Refusal → Result (List ℕ) Refusal
+of_reported (Ok c) = Ok (c.free ∷ c.held ∷ [])
+of_reported (Err q) = Err q
 
 -- ---- a call: the answer that was promised is told
 
-pub record Answered {A : Type 0} (Promised : A → Type 0) (said : A → Said) (k : ℕ) (v v' : List ℕ) : Type 0 where
+pub record Answered {A : Type 0} (Promised : A → Type 0) (said : A → Result (List ℕ) Refusal) (k : ℕ) (v v' : List ℕ) : Type 0 where
   pub answer : A
   pub promised : Promised answer
   pub told : Told (said answer) k v v'

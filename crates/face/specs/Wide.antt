@@ -99,7 +99,7 @@ module _ (n s h p : ℕ) where
             → PerformsBytes (chip_of given t) t b call t' b' a
         bad (Ok y) ns ng q = absurd (q.answers.0.0 ns)
         bad (Err r) ns ng q =
-            record { answers = (refused_first short given ns ng _ _ _ q.answers.0, q.answers.1, q.answers.2); bytes = q.bytes }
+            record { answers = (refused_first short given ns ng _ _ _ q.answers.0, q.answers.1, q.answers.2); list = q.list }
 
 -- ---- words and limits, on a legal wheel
 
@@ -230,10 +230,10 @@ module _ (chip : Chip) (t b path : List ℕ) (m f W D : ℕ) where
             grants_same chip.wheel legal (free_slots chip t path m) W _ _ (allowed_same legal short) g
             (subst (λ k. Grants chip.wheel (free_slots chip t path m) k (allowed chip path m (min D 65535)) g) words q.answers.1);
         table = q.answers.2;
-        list = subst (λ k. Written b (64 * (f - 1)) (open_record path m g.slots (asks k (min D 65535))) b') words q.bytes;
+        list = subst (λ k. Written b (64 * (f - 1)) (open_record path m g.slots (asks k (min D 65535))) b') words q.list;
       }
   opens_wide t' b' (Err r) q =
-      record { refuses = refuses_alike _ _ _ open_alike q.answers.0; table = q.answers.1; list = q.bytes }
+      record { refuses = refuses_alike _ _ _ open_alike q.answers.0; table = q.answers.1; list = q.list }
 
 -- ---- each call, v being the wheel that the library was asked with
 

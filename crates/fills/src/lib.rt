@@ -3,15 +3,25 @@
 #![tactic(auto)]
 
 ghost use Rattle.std.specs.Prelude.{◌≡◌, ℕ, ◌+◌, ◌<◌, length, get_or};
-ghost use Rattle.line.specs.Rows.{Lifted, Raised};
+ghost use Rattle.line.specs.Rows.{Picked, Lifted, Raised};
 
 // The row becomes the better of the heads and the tails.
-pub fn lift(row: &mut [u16], heads: &[u16], tails: &[u16])
+pub fn pick(row: &mut [u16], heads: &[u16], tails: &[u16])
     requires { (length heads.now ≡ length row.old) × (length tails.now ≡ length row.old) }
-    ensures { Lifted row.new heads.now tails.now }
+    ensures { Picked row.new heads.now tails.now }
 {
     for i in 0..row.len() {
         row[i] = positions::better(heads[i], tails[i]);
+    }
+}
+
+// The row becomes at least the values. To raise it by 0 words would say the same, and take longer.
+pub fn lift(row: &mut [u16], values: &[u16])
+    requires { length values.now ≡ length row.old }
+    ensures { Lifted row.old row.new values.now }
+{
+    for i in 0..row.len() {
+        row[i] = positions::better(values[i], row[i]);
     }
 }
 

@@ -3,11 +3,12 @@
 -- every start whose tables the later rows hold.
 use Rattle.std.specs.Prelude.{◌≡◌, refl, Bool, true, false, cond, List, ◌++◌, ◌⊎◌, leb, get_or, length, set, take, drop, ℕ, zero, suc, ◌+◌, ◌-◌, ◌*◌, ◌≤◌, ◌<◌, max, min}
 use Rattle.std.proofs.Common.{rules, ap, ap₂, ◌∙◌, subst, inl, inr, ⊎_elim, add-zero, mul-le-mul_right, eq-or-lt_of_le, length-set, get_or-set_same, get_or-set_other, sym, arith}
+use Rattle.std.proofs.Math.Nat.{max_comm}
 use Rattle.std.proofs.Math.ListN.{get_or-append}
 use Rattle.std.proofs.lemmas.List.{places, get_or-take, get_or-drop, get_or-append_right}
 use Rattle.laws.specs.Logic.{le_or_lt}
 use Rattle.line.specs.declared.Task.{Task}
-use Rattle.line.specs.Values.{N, S, P, L, or_none, raised, raised_none, raised_zero}
+use Rattle.line.specs.Values.{N, S, P, L, or_none, raised, raised_none}
 use Rattle.line.specs.Packets.{packet_words, opens, opens_last, head, tail, head_most, tail_most, tail_done, tail_far, head_shut, head_zero}
 use Rattle.line.specs.Tables.{Sound, entry, FreeRun, Heads, Tails, most_of, most_more, pack_most, pack_more, pack_same, tail_window, head_long, head_short}
 
@@ -21,8 +22,12 @@ pub record Filled (old new : List ℕ) (base j : ℕ) (e : ℕ → ℕ) : Type 0
   pub long : length new ≡ length old
 
 -- a row becomes the better of heads and tails, entry by entry
+abbrev pub Picked : List ℕ → List ℕ → List ℕ → Type 0
+Picked new hd tl = (i : ℕ) → i < length new → get_or new i 0 ≡ max (get_or hd i 0) (get_or tl i 0)
+
+-- a row becomes at least other values
 abbrev pub Lifted : List ℕ → List ℕ → List ℕ → Type 0
-Lifted new hd tl = (i : ℕ) → i < length new → get_or new i 0 ≡ max (get_or hd i 0) (get_or tl i 0)
+Lifted old new vs = (i : ℕ) → i < length new → get_or new i 0 ≡ max (get_or vs i 0) (get_or old i 0)
 
 -- a row becomes at least other values with `words` more on top
 abbrev pub Raised : List ℕ → List ℕ → List ℕ → ℕ → Type 0
@@ -105,10 +110,10 @@ filled_split old front back ys base j n e q b same long h =
     subst (λ l. Filled l ((take base front ++ (ys ++ drop n (drop base front))) ++ back) base j e) (sym q)
     (filled_front front _ back base j e b (filled_part front ys base j n e b same long h))
 
--- rows that were lifted or raised, the entries that they took in under other names
-pub lifted_is : (new hd tl : List ℕ) (j : ℕ) (d e : ℕ → ℕ) → length new ≡ j → Lifted new hd tl → ((k : ℕ) → k < j → get_or hd k 0 ≡ d k)
+-- rows that were picked or raised, the entries that they took in under other names
+pub picked_is : (new hd tl : List ℕ) (j : ℕ) (d e : ℕ → ℕ) → length new ≡ j → Picked new hd tl → ((k : ℕ) → k < j → get_or hd k 0 ≡ d k)
     → ((k : ℕ) → k < j → get_or tl k 0 ≡ e k) → (k : ℕ) → k < j → get_or new k 0 ≡ max (d k) (e k)
-lifted_is new hd tl j d e long up a b k l = up k (omega arith) ∙ ap₂ max (a k l) (b k l)
+picked_is new hd tl j d e long up a b k l = up k (omega arith) ∙ ap₂ max (a k l) (b k l)
 
 pub raised_is : (old new vs : List ℕ) (words j : ℕ) (d e : ℕ → ℕ) → length new ≡ j → Raised old new vs words
     → ((k : ℕ) → k < j → get_or old k 0 ≡ d k) → ((k : ℕ) → k < j → get_or vs k 0 ≡ e k)
@@ -136,12 +141,10 @@ pub record TailsMore (t : Task) (cap e : ℕ) (hd old new : List ℕ) : Type 0 w
 
 -- a row of the best heads of the positions before p, with those of position p too
 pub window_more : (hd old new vs : List ℕ) (from p j : ℕ) → from ≤ p → length new ≡ j → ((k : ℕ) → k < j → get_or vs k 0 ≡ entry hd p k)
-    → ((k : ℕ) → k < j → get_or old k 0 ≡ most_of hd k from (p - from)) → Raised old new vs 0
+    → ((k : ℕ) → k < j → get_or old k 0 ≡ most_of hd k from (p - from)) → Lifted old new vs
     → (k : ℕ) → k < j → get_or new k 0 ≡ most_of hd k from (p + 1 - from)
 window_more hd old new vs from p j h long at best up k l =
-    raised_is old new vs 0 j (λ k. most_of hd k from (p - from)) (entry hd p) long up best at k l
-    ∙ ap (max (most_of hd k from (p - from))) (raised_zero (entry hd p k))
-    ∙ sym (most_more hd k from p h)
+    up k (omega arith) ∙ ap₂ max (at k l) (best k l) ∙ max_comm _ _ ∙ sym (most_more hd k from p h)
 
 module _ (t : Task) (cap e : ℕ) (hd old new : List ℕ) (e2 : e + 2 ≤ N t) where
   -- the limit cuts nothing

@@ -68,11 +68,6 @@ unfolding raised
 raised_some a zero e = absurd (e refl)
 raised_some a (suc v) e = omega arith
 
-pub raised_zero : (v : ℕ) → raised 0 v ≡ v
-unfolding raised
-raised_zero zero = refl
-raised_zero (suc v) = omega arith
-
 pub raised_none : (a v : ℕ) → v ≡ 0 → raised a v ≡ 0
 unfolding raised
 raised_none a zero e = refl

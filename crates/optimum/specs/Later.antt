@@ -2,8 +2,7 @@
 -- that is cut at a later start is worth no more than one that was cut before. Where all slots are free, the line is the same
 -- at every start.
 use Rattle.std.specs.Prelude.{◌≡◌, refl, Bool, true, false, ◌∷◌, ◌⊎◌, ℕ, zero, suc, ◌+◌, ◌-◌, ◌%◌, ◌≤◌, ◌<◌, min, Option}
-use Rattle.std.proofs.Common.{sym, ap, ◌∙◌, subst, inl, inr, arith, zero-add, mod-lt}
-use Rattle.std.proofs.Math.Path.{ap₂}
+use Rattle.std.proofs.Common.{sym, ap, ◌∙◌, subst, inl, inr, arith, zero-add, mod-lt, ap₂}
 use Rattle.rules.specs.Sets.{has}
 use Rattle.rules.specs.Wheels.{chosen}
 use Rattle.laws.specs.Logic.{le_or_lt, not_both, not_true_false}

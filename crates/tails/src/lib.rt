@@ -16,7 +16,7 @@ fn window(tails: &mut [u16; 4096], heads: &[u16; 4096], e: usize, end: usize, ca
     let row = &mut tails[e * 64..e * 64 + cap + 1];
     row.fill(0);
     for p in e + 2..end {
-        fills::raise(row, &heads[p * 64..p * 64 + cap + 1], 0);
+        fills::lift(row, &heads[p * 64..p * 64 + cap + 1]);
     }
 }
 
@@ -39,7 +39,7 @@ fn tails_more(tails: &mut [u16; 4096], heads: &[u16; 4096], task: Task, e: usize
     if n <= e + l + 1 && e + 3 < n {
         let (row, later) = tails.split_at_mut((e + 1) * 64);
         let head = (e + 2) * 64;
-        fills::lift(
+        fills::pick(
             &mut row[e * 64..e * 64 + cap + 1],
             &heads[head..head + cap + 1],
             &later[..cap + 1],

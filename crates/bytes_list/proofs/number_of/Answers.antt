@@ -1,20 +1,19 @@
 -- By where the number stands.
-use native.Mathlib.Omega.{arith}
-use mathlib.Core.Path.{◌∙◌}
+use Rattle.std.proofs.Common.{◌∙◌, arith}
 use Rattle.bytes_list.specs.Writing.{number_state, number_len, number_path, number_slots, number_rest}
 use Rattle.bytes_list.proofs.number_of.Goals as goal
 
-pub returns-then-j-lt3 : goal.returns-then-j-lt3
-returns-then-j-lt3 c = c.state_number.ensures ∙ number_state _ _ c.if-j-lt3.true
+pub returns-in-0-to-2 : goal.returns-in-0-to-2
+returns-in-0-to-2 c = c.state_numbers.ensures c.args.j (omega arith) ∙ number_state _ _ (omega arith)
 
-pub returns-then-j-lt4 : goal.returns-then-j-lt4
-returns-then-j-lt4 c = number_len _ _ (omega arith) (omega arith)
+pub returns-in-3 : goal.returns-in-3
+returns-in-3 c = number_len _ _ (omega arith) (omega arith)
 
-pub returns-then-j-lt20 : goal.returns-then-j-lt20
-returns-then-j-lt20 c = number_path _ _ (omega arith) (omega arith)
+pub returns-in-4-to-19 : goal.returns-in-4-to-19
+returns-in-4-to-19 c = number_path _ _ (omega arith) (omega arith)
 
-pub returns-then-j-lt24 : goal.returns-then-j-lt24
-returns-then-j-lt24 c = c.slots_number.ensures ∙ number_slots _ _ (omega arith) (omega arith)
+pub returns-in-20-to-23 : goal.returns-in-20-to-23
+returns-in-20-to-23 c = c.slots_number.ensures ∙ number_slots _ _ (omega arith) (omega arith)
 
-pub returns : goal.returns
-returns c = number_rest _ _ (omega arith)
+pub returns-in_default : goal.returns-in_default
+returns-in_default c = number_rest _ _ (omega arith)

@@ -1,6 +1,5 @@
 -- The set so far and what is left to add make the greedy choice.
-use mathlib.Core.Path.{◌≡◌}
-use Prim.Native.Nat.{◌+◌, ◌≤◌}
+use Rattle.std.proofs.Common.{◌≡◌, ◌+◌, ◌≤◌}
 use Rattle.line.specs.Rebuild.{greedy_set, left, Due}
 use Rattle.rebuild.proofs.rebuild.Given as goal
 

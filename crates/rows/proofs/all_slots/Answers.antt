@@ -1,5 +1,5 @@
 -- Of 64 ones, all but the n lowest are shifted out.
-use native.Mathlib.Omega.{arith}
+use Rattle.std.proofs.Common.{arith}
 use Rattle.rows.specs.Slots.{all_slots}
 use Rattle.rows.proofs.all_slots.Goals as goal
 

@@ -16,11 +16,11 @@ loop-p-init c =
 
 pub loop-p-preserved : goal.loop-p-preserved
 loop-p-preserved c =
-    let long : length c.raise.new.row ≡ c.args.cap + 1 = omega (arith, c.raise.auto.row, c.loop-p.invariant.long) in
+    let long : length c.lift.new.row ≡ c.args.cap + 1 = omega (arith, c.lift.auto.row, c.loop-p.invariant.long) in
     record {
       within = omega arith;
       long = long;
-      best = window_more _ _ _ _ _ _ _ (omega arith) long (λ k h. part_entry _ _ _ k (omega arith)) c.loop-p.invariant.best c.raise.ensures;
+      best = window_more _ _ _ _ _ _ _ (omega arith) long (λ k h. part_entry _ _ _ k (omega arith)) c.loop-p.invariant.best c.lift.ensures;
     }
 
 pub returns : goal.returns
