@@ -15,12 +15,12 @@ use Rattle.rules.specs.Wheels.{Legal}
 use Rattle.rules.specs.Paths.{Chip, allowed, free_slots}
 use Rattle.rules.specs.Numbers.{number, Line, ◌then◌, Refuses, Passes}
 use Rattle.rules.specs.Orders.{Tabled, checked, asked_lines, room_lines, path_lines, way_lines, flow_lines, state_lines, order_of}
-use Rattle.rules.specs.Promises.{Selects}
+use Rattle.rules.specs.Promises.{Selects, of_opened}
 use Rattle.laws.specs.Refusals.{passed, ahead, behind, past, passes_then}
 use Rattle.ledger.specs.Claims.{free_below}
 use Rattle.ledger.specs.Lines.{inside_stable}
 use Rattle.table.specs.Along.{Walkable}
-use Rattle.decide.specs.Decisions.{Settles, Decides}
+use Rattle.decide.specs.Decisions.{Settles, DecidesOwn, Decides}
 
 pub neither_of : {P Q : Type 0} → ¬ P → ¬ Q → ¬ (P ⊎ Q)
 neither_of p q (inl x) = p x
@@ -56,6 +56,13 @@ module _ (chip : Chip) (t : List ℕ) (n : ℕ) (disagree : Type 0) (r : Record)
       settled_behind flow (Err q) d =
           behind (checked chip t n disagree) _ (number q) gate
           (behind (way_lines chip call v) _ (number q) way (behind (flow_lines n call.flow) _ (number q) flow d))
+
+-- behind the gate
+pub decides_behind : (chip : Chip) (t : List ℕ) (n : ℕ) (disagree : Type 0) (r : Record) (call : Call) (v : Verb) (a : Result Yes Refusal)
+    → Passes (checked chip t n disagree) → DecidesOwn chip t n r call v a → Decides chip t n disagree r call v a
+unfolding Settles
+decides_behind chip t n disagree r call v (Ok y) p d = (passes_then (checked chip t n disagree) _ p d.0, d.1)
+decides_behind chip t n disagree r call v (Err q) p d = behind (checked chip t n disagree) _ (number q) p d
 
 -- a path that an opening may have can be walked on a table
 pub way_walkable : (chip : Chip) (t : List ℕ) (call : Call) (v : Verb) (d : Demand) → v ≡ ToOpen d → Passes (way_lines chip call v)
@@ -105,3 +112,8 @@ module _ (xs : List Line) (chip : Chip) (t : List ℕ) (r : Record) (call : Call
           (number q)
           (λ no. no legal, (λ no. no (free_below chip t call.path.entries call.path.len), (λ no. omega (arith, w1), (λ no. omega (arith, l1, f), tt))))
           s)
+
+  pub selection_settles : (a : Result Grant Refusal) → Selects chip.wheel free d.words.0 L a → Settles (xs then room) chip t r call (ToOpen d) (of_opened a)
+  unfolding Settles
+  selection_settles (Ok g) s = selection_grants g s
+  selection_settles (Err q) s = selection_refuses q s
