@@ -1,7 +1,7 @@
 -- Decimal numbers as text. Read from the left, the digits of n give n back, so that what follows a number decides where
 -- it ends: two numbers that begin one text, neither followed by a digit, are the same number.
 use Rattle.std.specs.Prelude.{◌≡◌, refl, Bool, true, false, cond, List, [], ◌∷◌, ◌++◌, ◌⊎◌, ℕ, zero, suc, ◌+◌, ◌-◌, ◌*◌, ◌/◌, ◌%◌, ◌≤◌, ◌<◌, ltb, length}
-use Rattle.std.proofs.Common.{sym, ap, ◌∙◌, append_assoc, inl, inr, arith, le_trans, lt-ltb, le-ltb, length-append}
+use Rattle.std.proofs.Common.{sym, ap, ◌∙◌, append_assoc, inl, inr, arith, le_trans, lt-ltb, le-ltb, ltb-false, length-append}
 use Rattle.laws.specs.Logic.{le_or_lt}
 use Rattle.grammar.specs.Text.{digits, decimal}
 
@@ -17,6 +17,16 @@ leading (c ∷ cs) = digit c
 pub digit_is : (d : ℕ) → d < 10 → digit (48 + d) ≡ d
 unfolding digit
 digit_is d h = rw (le-ltb (48 + d) 48 (omega arith), le-ltb 57 (48 + d) (omega arith)) (omega arith)
+
+-- a byte that is a digit
+pub digit_byte : (c : ℕ) → digit c < 10 → c ≡ 48 + digit c
+unfolding digit
+digit_byte c h = go (ltb c 48) (ltb 57 c) refl refl h
+  where
+    go : (a b : Bool) → ltb c 48 ≡ a → ltb 57 c ≡ b → cond a 10 (cond b 10 (c - 48)) < 10 → c ≡ 48 + cond a 10 (cond b 10 (c - 48))
+    go true b p q h = absurd (omega arith)
+    go false true p q h = absurd (omega arith)
+    go false false p q h = omega (arith, ltb-false c 48 p)
 
 -- ---- reading from the left
 

@@ -1,6 +1,6 @@
 -- The lines of a text, one at a time: the bytes up to the first line feed are the first line, and what follows it has the rest.
-use Rattle.std.specs.Prelude.{◌≡◌, refl, List, [], ◌∷◌, ◌++◌, ℕ, suc, ◌+◌, ◌<◌, length, get_or, take, drop}
-use Rattle.std.proofs.Common.{sym, ap, ◌∙◌, arith, add-one, ne_eqb, take-append-drop, drop-cons, get_or-take, length-take-le}
+use Rattle.std.specs.Prelude.{◌≡◌, refl, List, [], ◌∷◌, ◌++◌, ℕ, suc, ◌+◌, ◌≤◌, ◌<◌, length, get_or, take, drop}
+use Rattle.std.proofs.Common.{sym, ap, ◌∙◌, arith, add-one, below_more, ne_eqb, take-append-drop, drop-cons, get_or-take, length-take-le}
 use Rattle.grammar.specs.Text.{on_first, lines}
 
 -- no byte is a line feed
@@ -23,6 +23,11 @@ line_last [] h c = absurd (omega arith)
 line_last (x ∷ []) h c = rw (ne_eqb x 10 (c.at 0 (omega arith)))
 line_last (x ∷ y ∷ xs) h c =
     rw (ne_eqb x 10 (c.at 0 (omega arith))) (ap (on_first x) (line_last (y ∷ xs) (omega arith) (clear_tail c)))
+
+-- no line feed up to i, and none there
+pub passed_on : (text : List ℕ) (at i : ℕ) → ((k : ℕ) → at ≤ k → k < i → get_or text k 0 ≡ 10 → ⊥) → (get_or text i 0 ≡ 10 → ⊥)
+    → (k : ℕ) → at ≤ k → k < i + 1 → get_or text k 0 ≡ 10 → ⊥
+passed_on text at i old here k h l = below_more (λ k. at ≤ k → get_or text k 0 ≡ 10 → ⊥) i (λ k l h. old k h l) (λ h. here) k l h
 
 -- the first line feed of a text is its byte i
 pub line_then : (text : List ℕ) (i : ℕ) → i < length text → get_or text i 0 ≡ 10 → ((k : ℕ) → k < i → get_or text k 0 ≡ 10 → ⊥)

@@ -1,7 +1,7 @@
 -- One packet of the rebuilding. `left` is what is still to be added to the set; each packet moves its run of slots from
 -- there into the set, so that the set and what is left add up to the greedy choice at every step.
 use Rattle.std.specs.Prelude.{◌≡◌, refl, Bool, true, false, nat_eq, List, ◌⊎◌, ℕ, zero, suc, ◌+◌, ◌-◌, ◌*◌, ◌%◌, ◌^◌, ◌≤◌, ◌<◌, min, max, get_or, Option, Some, None}
-use Rattle.std.proofs.Common.{sym, ap, ◌∙◌, subst, inl, inr, arith, add-zero, eqb-true, false-eqb}
+use Rattle.std.proofs.Common.{sym, ap, ◌∙◌, subst, inl, inr, arith, add-zero, below_more, eqb-true, false-eqb}
 use Rattle.laws.specs.Logic.{le_or_lt}
 use Rattle.line.specs.declared.Task.{Task}
 use Rattle.line.specs.Values.{N, S, P, raised, greedy}
@@ -312,3 +312,7 @@ above_more A q m h a f j l r = go (le_or_lt q j)
     go (inr e) =
         let c : j ≡ q - 1 = omega arith in
         rw c a
+
+-- and going up
+pub between_more : (A : ℕ → Type 0) (from p : ℕ) → ((x : ℕ) → from ≤ x → x < p → A x) → A p → (x : ℕ) → from ≤ x → x < p + 1 → A x
+between_more A from p f a x l r = below_more (λ x. from ≤ x → A x) p (λ x r l. f x l r) (λ l. a) x r l

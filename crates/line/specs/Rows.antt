@@ -2,7 +2,7 @@
 -- The function of one row does not know at which start the wheel is cut, and need not: what it computes is right for
 -- every start whose tables the later rows hold.
 use Rattle.std.specs.Prelude.{◌≡◌, refl, Bool, true, false, cond, List, ◌++◌, ◌⊎◌, leb, get_or, length, set, take, drop, ℕ, zero, suc, ◌+◌, ◌-◌, ◌*◌, ◌≤◌, ◌<◌, max, min}
-use Rattle.std.proofs.Common.{rules, ap, ap₂, ◌∙◌, subst, inl, inr, ⊎_elim, add-zero, mul-le-mul_right, eq-or-lt_of_le, length-set, get_or-set_same, get_or-set_other, sym, arith}
+use Rattle.std.proofs.Common.{rules, ap, ap₂, ◌∙◌, subst, inl, inr, ⊎_elim, add-zero, below_more, mul-le-mul_right, eq-or-lt_of_le, length-set, get_or-set_same, get_or-set_other, sym, arith}
 use Rattle.std.proofs.Math.Nat.{max_comm}
 use Rattle.std.proofs.Math.ListN.{get_or-append}
 use Rattle.std.proofs.lemmas.List.{places, get_or-take, get_or-drop, get_or-append_right}
@@ -10,7 +10,7 @@ use Rattle.laws.specs.Logic.{le_or_lt}
 use Rattle.line.specs.declared.Task.{Task}
 use Rattle.line.specs.Values.{N, S, P, L, or_none, raised, raised_none}
 use Rattle.line.specs.Packets.{packet_words, opens, opens_last, head, tail, head_most, tail_most, tail_done, tail_far, head_shut, head_zero}
-use Rattle.line.specs.Tables.{Sound, entry, FreeRun, Heads, Tails, most_of, most_more, pack_most, pack_more, pack_same, tail_window, head_long, head_short}
+use Rattle.line.specs.Tables.{Sound, entry, FreeRun, Heads, Tails, most_of, most_none, most_more, pack_most, pack_none, pack_more, pack_same, tail_window, head_long, head_short}
 
 -- ---- one row of a table
 
@@ -33,11 +33,31 @@ Lifted old new vs = (i : ℕ) → i < length new → get_or new i 0 ≡ max (get
 abbrev pub Raised : List ℕ → List ℕ → List ℕ → ℕ → Type 0
 Raised old new vs words = (i : ℕ) → i < length new → get_or new i 0 ≡ max (get_or old i 0) (raised words (get_or vs i 0))
 
+pub filled_none : (old : List ℕ) (base : ℕ) (e : ℕ → ℕ) → Filled old old base 0 e
+filled_none old base e = record { row = λ i h. absurd (omega arith); below = λ i h. refl; above = λ i h. refl; long = refl }
+
+pub filled_more : (old new : List ℕ) (base j v : ℕ) (e : ℕ → ℕ) → Filled old new base j e → base + j < length old
+    → v ≡ e j → Filled old (set new (base + j) v) base (j + 1) e
+filled_more old new base j v e h b q =
+    record {
+      row = below_more (λ i. get_or (set new (base + j) v) (base + i) 0 ≡ e i) j
+          (λ i d. get_or-set_other new (base + j) (base + i) v 0 (omega arith) ∙ h.row i d)
+          (get_or-set_same new (base + j) v 0 (omega (arith, h.long)) ∙ q);
+      below = λ i d. get_or-set_other new (base + j) i v 0 (omega arith) ∙ h.below i d;
+      above = λ i d. get_or-set_other new (base + j) i v 0 (omega arith) ∙ h.above i (omega arith);
+      long = simp length-set h.long;
+    }
+
 -- the entries under another name
 pub filled_as : (old new : List ℕ) (base j : ℕ) (d e : ℕ → ℕ) → Filled old new base j d → ((i : ℕ) → i < j → d i ≡ e i) → Filled old new base j e
 filled_as old new base j d e h q = record { row = λ i l. h.row i l ∙ q i l; below = h.below; above = h.above; long = h.long }
 
--- the same row a second time, from its entry q on
+-- the same row a second time
+pub filled_then : (old mid new : List ℕ) (base j : ℕ) (d e : ℕ → ℕ) → Filled old mid base j d → Filled mid new base j e → Filled old new base j e
+filled_then old mid new base j d e a b =
+    record { row = b.row; below = λ i l. b.below i l ∙ a.below i l; above = λ i l. b.above i l ∙ a.above i l; long = b.long ∙ a.long }
+
+-- and from its entry q on
 pub filled_again : (old mid new : List ℕ) (base j q : ℕ) (d e g : ℕ → ℕ) → q ≤ j → Filled old mid base j d
     → Filled mid new (base + q) (j - q) e → ((i : ℕ) → i < q → d i ≡ g i) → ((i : ℕ) → i < j - q → e i ≡ g (q + i)) → Filled old new base j g
 filled_again old mid new base j q d e g h a b low high =
@@ -139,6 +159,12 @@ pub record TailsMore (t : Task) (cap e : ℕ) (hd old new : List ℕ) : Type 0 w
   pub filled : Filled old new (e * 64) (cap + 1) (entry new e)
   pub is : (s K k : ℕ) → cap ≤ K → Heads t s K (e + 1) hd → Tails t s K (e + 1) old → 1 ≤ k → k ≤ cap → entry new e k ≡ tail t s e k
 
+-- a window of no position
+pub window_none : (cap e : ℕ) (hd old new : List ℕ) → Filled old new (e * 64) (cap + 1) (λ k. 0)
+    → Filled new new (e * 64) (cap + 1) (λ k. most_of hd k (e + 2) (e + 2 - (e + 2)))
+window_none cap e hd old new h =
+    record { row = λ k l. h.row k l ∙ sym (most_none hd k (e + 2) (e + 2) (omega arith)); below = λ i l. refl; above = λ i l. refl; long = refl }
+
 -- a row of the best heads of the positions before p, with those of position p too
 pub window_more : (hd old new vs : List ℕ) (from p j : ℕ) → from ≤ p → length new ≡ j → ((k : ℕ) → k < j → get_or vs k 0 ≡ entry hd p k)
     → ((k : ℕ) → k < j → get_or old k 0 ≡ most_of hd k from (p - from)) → Lifted old new vs
@@ -219,6 +245,12 @@ module _ (t : Task) (good : Sound t) (hd tl : List ℕ) (p f k : ℕ) (z : Held 
 pub record HeadRow (t : Task) (cap m p f : ℕ) (tl old new : List ℕ) : Type 0 where
   pub is : (s K : ℕ) → p + f < N t → cap ≤ K → Heads t s K (p + 1) old → Tails t s K p tl → FreeRun t s p f
       → Filled old new (p * 64) m (head t s p)
+
+-- packets of no slot
+pub packets_none : (t : Task) (cap p : ℕ) (tl old new : List ℕ) → Filled old new (p * 64) (cap + 1) (λ k. 0)
+    → Filled new new (p * 64) (cap + 1) (λ k. pack_most t tl p k 1 (min (1 - 1) k))
+packets_none t cap p tl old new h =
+    record { row = λ k l. h.row k l ∙ sym (pack_none t tl p k); below = λ i l. refl; above = λ i l. refl; long = refl }
 
 -- a row of what the packets of fewer than q slots come to, with those of q slots too
 pub packets_more : (t : Task) (cap p q w : ℕ) (tl old new : List ℕ) → 1 ≤ q → q ≤ cap → w ≡ packet_words t q
@@ -393,6 +425,9 @@ module _ (t : Task) (good : Sound t) (s K p f f' : ℕ) (b : Bool) (hd tl tl' : 
         tails = grown_tails;
         run = grown_run;
       }
+
+  pub from_room : d + f' < 64
+  from_room = omega (arith, grown_within, good.legal.n64)
 
   pub from_more : (hd' : List ℕ) → HeadRow t K (K + 1) d f' tl' hd hd' → SolvedFrom t s K d f' hd' tl'
   from_more hd' hr =

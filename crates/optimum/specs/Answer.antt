@@ -4,6 +4,7 @@ use Rattle.std.specs.Prelude.{◌≡◌, refl, Bool, true, false, ◌⊎◌, ℕ
 use Rattle.std.proofs.Common.{sym, ap, ◌∙◌, inl, inr, arith}
 use Rattle.rules.specs.declared.Wheel.{Wheel}
 use Rattle.rules.specs.declared.Grant.{Grant}
+use Rattle.rules.specs.declared.Words.{Words}
 use Rattle.rules.specs.Sets.{has, Within, Below}
 use Rattle.rules.specs.Wheels.{Legal, chosen, size, full, words}
 use Rattle.rules.specs.Best.{Meets, Best, smallest_start}
@@ -14,6 +15,7 @@ use Rattle.laws.specs.Turns.{chosen_below, start_both}
 use Rattle.laws.specs.Runs.{full_each}
 use Rattle.laws.specs.Gaps.{gap_most}
 use Rattle.line.specs.declared.Task.{Task}
+use Rattle.line.specs.Asked.{Asked}
 use Rattle.line.specs.Values.{N, L}
 use Rattle.optimum.specs.declared.Found.{Found}
 use Rattle.optimum.specs.Starts.{has_smallest, size_full, size_less}
@@ -28,6 +30,19 @@ pub record Meetable (w : Wheel) (free W L : ℕ) : Type 0 where
   pub some : 1 ≤ W
   pub l1 : 1 ≤ L
   pub meets : Meets w W L free
+
+-- the search for one, with the limit cut at n, is sound
+pub sound : (w : Wheel) (free : ℕ) (wanted : Words) (limit cut : ℕ) → cut ≡ min limit w.n → Meetable w free wanted.0 limit → 2 ≤ w.n
+    → Asked w free wanted cut
+sound w free wanted limit cut e a two =
+    record {
+      legal = a.legal;
+      two = two;
+      some = a.some;
+      l1 = omega (arith, a.l1, a.legal.n1);
+      l64 = omega (arith, a.legal.n64);
+      fit = a.fit;
+    }
 
 -- ---- only the full wheel is left
 

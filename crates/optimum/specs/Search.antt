@@ -1,6 +1,6 @@
 -- The search over the starts. After the starts below u the best of them is known: no start does with fewer slots, none is
 -- worth more with as many, and none before it is worth as much. A start whose bound says that it cannot win leaves that so.
-use Rattle.std.specs.Prelude.{◌≡◌, refl, false, List, ◌⊎◌, ℕ, zero, suc, ◌+◌, ◌-◌, ◌*◌, ◌≤◌, ◌<◌, get_or, Option, Some, None, is_some}
+use Rattle.std.specs.Prelude.{◌≡◌, refl, true, false, List, ◌⊎◌, ℕ, zero, suc, ◌+◌, ◌-◌, ◌*◌, ◌≤◌, ◌<◌, get_or, Option, Some, None, is_some}
 use Rattle.std.proofs.Common.{sym, ap, ◌∙◌, subst, inl, inr, ⊎_elim, arith, below_more}
 use Rattle.std.proofs.lemmas.Option.{same_Some}
 use Rattle.laws.specs.Logic.{le_or_lt}
@@ -145,6 +145,15 @@ pub weighed_all : (t : Task) (u cap : ℕ) (hd tl : List ℕ) (k : Option ℕ) �
     → Weighed t u cap hd tl k
 weighed_all t u cap hd tl None solved first = (first, solved)
 weighed_all t u cap hd tl (Some k) solved (range, low, enough) = ((range, low, enough), solved_fewer _ _ _ _ _ _ range solved)
+
+-- tables up to `near` do if they hold such a number, or if `near` is the cap
+pub weighed : (t : Task) (u cap near : ℕ) (hd tl : List ℕ) (k : Option ℕ) → near ≤ cap → Solved t u near hd tl
+    → FirstOver hd near t.words.0 k → (is_some k ≡ true) ⊎ (near ≡ cap) → Weighed t u cap hd tl k
+weighed t u cap near hd tl None nc solved first (inl e) = absurd (cc)
+weighed t u cap near hd tl None nc solved first (inr e) =
+    weighed_all t u cap hd tl None (subst (λ n. Solved t u n hd tl) e solved) (subst (λ n. FirstOver hd n t.words.0 None) e first)
+weighed t u cap near hd tl (Some k) nc solved (range, low, enough) does =
+    ((omega arith, low, enough), solved_fewer _ _ _ _ _ _ range solved)
 
 -- k slots of the value v do better than b
 abbrev pub Improves : Option Found → ℕ → ℕ → Type 0
