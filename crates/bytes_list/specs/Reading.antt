@@ -1,11 +1,47 @@
--- A record that is read from its numbers, field by field.
-use Rattle.std.specs.Prelude.{◌≡◌, List, ℕ, zero, suc, ◌+◌, ◌<◌, get_or, length, take, drop}
-use Rattle.std.proofs.Common.{sym, ap, ◌∙◌, arith, add-suc, suc-add, add-zero, zero-add, ext_get_or, get_or-take, get_or-drop, lit<}
+-- The tests of a record's numbers, by how they come out, and a record that is read from its numbers, field by field.
+use Rattle.std.specs.Prelude.{◌≡◌, Bool, true, false, eqb, List, ℕ, zero, suc, ◌+◌, ◌<◌, get_or, length, take, drop}
+use Rattle.std.proofs.Common.{sym, ap, ◌∙◌, arith, add-suc, suc-add, add-zero, zero-add, ext_get_or, get_or-take, get_or-drop, eq-eqb, ne_eqb, lit<}
 use Rattle.std.specs.Int.{from_le_bytes, w64}
 use Rattle.rules.specs.declared.State.{State}
-use Rattle.rules.specs.Sets.{list_of}
+use Rattle.rules.specs.declared.State.TheVariants.{Closed, Open}
+use Rattle.rules.specs.Sets.{all, list_of}
 use Rattle.laws.specs.Counting.{list_length}
-use Rattle.bytes_list.specs.Layout.{number_at, numbers_at, state_from, path_from, slots_from, record_from}
+use Rattle.bytes_list.specs.Layout.{number_at, numbers_at, known_state, is_zero, formed, asks, state_from, path_from, slots_from, record_from}
+
+module _ (g : ℕ → ℕ) where
+  module _ (s : ℕ) (s-is : s ≡ g 0) where
+    pub known_other : ¬ (s ≡ 0) → eqb s 1 ≡ known_state g
+    unfolding known_state
+    known_other n = rw (← s-is, ne_eqb s 0 n)
+
+    pub known_words : s ≡ 0 → (v : ℕ) → v ≡ g 1 → ¬ (v ≡ 0) → false ≡ known_state g
+    unfolding known_state
+    known_words z v e n = rw (← s-is, eq-eqb s 0 z, ← e, ne_eqb v 0 n)
+
+    pub known_deadline : s ≡ 0 → (v : ℕ) → v ≡ g 1 → v ≡ 0 → (d : ℕ) → d ≡ g 2 → eqb d 0 ≡ known_state g
+    unfolding known_state
+    known_deadline z v e w d q = rw (← s-is, eq-eqb s 0 z, ← e, eq-eqb v 0 w, ← q)
+
+  pub formed_no : (a : Bool) → a ≡ known_state g → a ≡ false → false ≡ formed g
+  unfolding formed
+  formed_no a e f = rw (← e, f)
+
+  pub formed_rest : (a : Bool) → a ≡ known_state g → a ≡ true → (b : Bool) → b ≡ all (is_zero g) 8 → b ≡ formed g
+  unfolding formed
+  formed_rest a e t b q = rw (← e, t, ← q)
+
+  module _ (a : Bool) (a-is : a ≡ formed g) where
+    pub state_none : a ≡ false → Open (asks 0 0) ≡ state_from g
+    unfolding state_from
+    state_none f = rw (← a-is, f)
+
+    pub state_closed : a ≡ true → (s : ℕ) → s ≡ g 0 → s ≡ 0 → Closed ≡ state_from g
+    unfolding state_from
+    state_closed t s e z = rw (← a-is, t, ← e, eq-eqb s 0 z)
+
+    pub state_open : a ≡ true → (s : ℕ) → s ≡ g 0 → ¬ (s ≡ 0) → (W D : ℕ) → W ≡ g 1 → D ≡ g 2 → Open (asks W D) ≡ state_from g
+    unfolding state_from
+    state_open t s e n W D p q = rw (← a-is, t, ← e, ne_eqb s 0 n, ← p, ← q)
 
 pub made : (g : ℕ → ℕ) (s : State) (p : List ℕ) (m x : ℕ) → s ≡ state_from g → p ≡ path_from g → m ≡ g 3 → x ≡ slots_from g
     → record { state = s; path = record { entries = p; len = m }; slots = x } ≡ record_from g

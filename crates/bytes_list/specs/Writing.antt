@@ -1,8 +1,30 @@
 -- A record's numbers, one after the other, and what the bytes are while they are written.
 use Rattle.std.specs.Prelude.{◌≡◌, refl, List, ◌⊎◌, ℕ, suc, ◌+◌, ◌-◌, ◌*◌, ◌/◌, ◌%◌, ◌≤◌, ◌<◌, get_or, length, set}
-use Rattle.std.proofs.Common.{ap, ◌∙◌, inl, inr, arith, eq-or-lt_of_le, length-set, get_or-set_same, get_or-set_other, lt-ltb, le-ltb}
+use Rattle.std.proofs.Common.{ap, ◌∙◌, inl, inr, arith, eq-or-lt_of_le, length-set, get_or-set_same, get_or-set_other, lt-ltb, le-ltb, eq-eqb, ne_eqb}
+use Rattle.rules.specs.declared.Demand.{Demand}
+use Rattle.rules.specs.declared.State.{State}
+use Rattle.rules.specs.declared.State.TheVariants.{Closed, Open}
 use Rattle.rules.specs.declared.Record.{Record}
 use Rattle.bytes_list.specs.Layout.{state_number, slots_number, number_of, Written}
+
+-- ---- a state's numbers
+
+pub closed_number : (s : State) (j : ℕ) → s ≡ Closed → 0 ≡ state_number s j
+unfolding state_number
+closed_number s j e = rw e
+
+module _ (s : State) (d : Demand) (e : s ≡ Open d) (j : ℕ) where
+  pub open_number : j ≡ 0 → 1 ≡ state_number s j
+  unfolding state_number
+  open_number z = rw (e, eq-eqb j 0 z)
+
+  pub words_number : ¬ (j ≡ 0) → j ≡ 1 → d.words.0 ≡ state_number s j
+  unfolding state_number
+  words_number n z = rw (e, ne_eqb j 0 n, eq-eqb j 1 z)
+
+  pub deadline_number : ¬ (j ≡ 0) → ¬ (j ≡ 1) → d.deadline ≡ state_number s j
+  unfolding state_number
+  deadline_number n m = rw (e, ne_eqb j 0 n, ne_eqb j 1 m)
 
 -- ---- a record's numbers
 

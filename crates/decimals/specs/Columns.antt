@@ -1,11 +1,11 @@
 -- Reading fields one by one. What was read so far is spelled in front of what is left; and whatever numbers the whole
 -- spells, what is left spells those of them that were not read yet. So where the next field fails, nothing is spelled.
 use Rattle.std.specs.Prelude.{◌≡◌, refl, List, [], ◌∷◌, ◌++◌, ℕ, ◌+◌, ◌≤◌, ◌<◌, length, get_or, take, drop, set}
-use Rattle.std.proofs.Common.{sym, ap, ◌∙◌, arith, add-one, length-set, take-suc-set}
+use Rattle.std.proofs.Common.{sym, ap, ◌∙◌, append-nil, arith, add-one, length-set, length-take-le, take-suc-set}
 use Rattle.grammar.specs.Text.{decimal, field, fields}
 use Rattle.grammar.specs.Commands.{Few}
 use Rattle.grammar.specs.Spelling.{few_none, few_head, few_tail, few_more, fields_more, fields_begin, take_field}
-use Rattle.decimals.specs.Meaning.{NumberAt, NoNumber, NoFields}
+use Rattle.decimals.specs.Meaning.{NumberAt, NoNumber, FieldsAt, NoFields}
 
 -- what is left, after `count` fields
 pub record Rest (count : ℕ) (rest : List ℕ) : Type 0 where
@@ -87,3 +87,15 @@ module _ (text room : List ℕ) (count : ℕ) (rest : List ℕ) (g : Going text 
               let t = take_field v next r.numbers n.small n.stop r.few (sym field_there ∙ r.spelled) in
               record { numbers = t.others; few = few_tail (rw t.all at r.few); room = omega (arith, r.room, ap length t.all); spelled = t.left };
         }
+
+-- nothing is left
+pub going_end : (text room : List ℕ) (count : ℕ) (rest : List ℕ) → Going text room count rest → length rest ≡ 0 → FieldsAt text (take count room)
+going_end text room count rest g h = record {
+  most = omega (arith, length-take-le count room (omega (arith, g.most, g.long)), g.most);
+  few = g.few;
+  spelled = g.split ∙ ap (λ t. fields (take count room) ++ t) (none rest h) ∙ append-nil (fields (take count room));
+}
+  where
+    none : (xs : List ℕ) → length xs ≡ 0 → xs ≡ []
+    none [] e = refl
+    none (x ∷ xs) e = absurd (omega arith)

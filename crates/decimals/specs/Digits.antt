@@ -1,11 +1,44 @@
 -- Reading a number digit by digit. After a first digit the number so far is known; a digit more behind it makes a longer
 -- number, unless the first was a zero or the number grows above 65535: then the text begins with no number.
-use Rattle.std.specs.Prelude.{◌≡◌, refl, List, [], ◌∷◌, ◌++◌, ℕ, ◌+◌, ◌*◌, ◌≤◌, ◌<◌, length, get_or, drop}
-use Rattle.std.proofs.Common.{sym, ap, ◌∙◌, append_assoc, arith, lt-ltb, le-ltb}
+use Rattle.std.specs.Prelude.{◌≡◌, refl, Bool, true, false, cond, ltb, ◌⊎◌, List, [], ◌∷◌, ◌++◌, ℕ, suc, ◌+◌, ◌-◌, ◌*◌, ◌≤◌, ◌<◌, length, get_or, drop}
+use Rattle.std.proofs.Common.{sym, ap, ◌∙◌, append_assoc, inl, inr, arith, add-one, lt-ltb, le-ltb, ltb-false, drop-cons, drop_of_length-le}
+use Rattle.laws.specs.Logic.{le_or_lt}
 use Rattle.grammar.specs.Text.{decimal}
-use Rattle.grammar.specs.Decimals.{digit, leading, digit_is, value, value_end, value_grows, value_digit}
+use Rattle.grammar.specs.Decimals.{digit, leading, digit_is, digit_byte, value, value_end, value_grows, value_digit}
 use Rattle.grammar.specs.Decimals.{decimal_value, decimal_one, decimal_more, decimal_begins, decimal_zero}
 use Rattle.decimals.specs.Meaning.{NumberAt, NoNumber}
+
+pub digit_most : (c : ℕ) → digit c ≤ 10
+unfolding digit
+digit_most c = go (ltb c 48) (ltb 57 c) refl
+  where
+    go : (a b : Bool) → ltb 57 c ≡ b → cond a 10 (cond b 10 (c - 48)) ≤ 10
+    go true b e = omega arith
+    go false true e = omega arith
+    go false false e = omega (arith, ltb-false 57 c e)
+
+pub leading_most : (xs : List ℕ) → leading xs ≤ 10
+unfolding leading
+leading_most [] = omega arith
+leading_most (c ∷ cs) = digit_most c
+
+-- the digit d stands at `at`
+module _ (line : List ℕ) (at d : ℕ) (is : d ≡ leading (drop at line)) (h : d < 10) where
+  pub digit_inside : at < length line
+  unfolding leading
+  digit_inside = go (le_or_lt (length line) at)
+    where
+      go : (length line ≤ at) ⊎ (at < length line) → at < length line
+      go (inl l) = absurd (omega (arith, ap leading (drop_of_length-le line {i = at} l)))
+      go (inr l) = l
+
+  digit_cons : drop at line ≡ (48 + d) ∷ drop (at + 1) line
+  unfolding leading
+  digit_cons =
+      let e = drop-cons line at 0 digit_inside in
+      let same : d ≡ digit (get_or line at 0) = is ∙ ap leading e in
+      let byte : get_or line at 0 ≡ 48 + d = digit_byte (get_or line at 0) (omega arith) ∙ ap (λ n. 48 + n) (sym same) in
+      e ∙ ap (λ c. c ∷ drop (suc at) line) byte ∙ ap (λ n. (48 + d) ∷ drop n line) (sym (add-one at))
 
 -- the digits up to the rest are those of v
 pub record Sofar (text : List ℕ) (v : ℕ) (rest : List ℕ) : Type 0 where

@@ -1,6 +1,6 @@
 -- The path of an opening: its channels, and zeros behind them.
-use Rattle.std.specs.Prelude.{◌≡◌, cond, List, ◌++◌, ◌⊎◌, ℕ, ◌+◌, ◌-◌, ◌≤◌, ◌<◌, ltb, length, get_or, drop, replicate}
-use Rattle.std.proofs.Common.{sym, ap, ◌∙◌, inl, inr, arith, zero-add, lt-ltb, le-ltb, ext_get_or, length-append, length-drop, get_or-drop}
+use Rattle.std.specs.Prelude.{◌≡◌, cond, List, ◌++◌, ◌⊎◌, ℕ, ◌+◌, ◌-◌, ◌≤◌, ◌<◌, ltb, length, get_or, take, drop, replicate}
+use Rattle.std.proofs.Common.{sym, ap, ◌∙◌, inl, inr, arith, zero-add, lt-ltb, le-ltb, ext_get_or, length-append, length-drop, get_or-drop, get_or-take}
 use Rattle.std.proofs.lemmas.List.{get_or-replicate}
 use Rattle.std.proofs.Math.ListN.{get_or-append}
 use Rattle.std.proofs.Math.Seq.{get_or-append_right}
@@ -40,3 +40,15 @@ filled channels small =
     go k h (inr l) =
         get_or-append channels (drop (length channels) zeros) 0 k l
         ∙ sym (trimmed_at channels (length channels) k h ∙ rw (lt-ltb k (length channels) l))
+
+-- entries from m on do not matter
+pub trimmed_take : (path : List ℕ) (m : ℕ) → trimmed path m ≡ trimmed (take m path) m
+trimmed_take path m =
+    ext_get_or 0 (trimmed path m) (trimmed (take m path) m) (trimmed_long path m ∙ sym (trimmed_long (take m path) m))
+    λ k h. go k (omega (arith, trimmed_long path m)) (le_or_lt m k)
+  where
+    go : (k : ℕ) → k < 16 → (m ≤ k) ⊎ (k < m) → get_or (trimmed path m) k 0 ≡ get_or (trimmed (take m path) m) k 0
+    go k h (inl l) = trimmed_at path m k h ∙ rw (le-ltb k m l) (sym (trimmed_at (take m path) m k h ∙ rw (le-ltb k m l)))
+    go k h (inr l) =
+        trimmed_at path m k h
+        ∙ rw (lt-ltb k m l) (sym (trimmed_at (take m path) m k h ∙ rw (lt-ltb k m l) (get_or-take m path k 0 l)))

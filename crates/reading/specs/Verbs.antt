@@ -47,6 +47,10 @@ no_verb line a b c = record { none = none }
     none (closing f) r = b (field f) r.spelled
     none reporting r = c r.spelled
 
+pub not_report : (rest : List ℕ) → (length rest ≡ 0 → ⊥) → Bad (report_bytes ++ rest)
+not_report rest more =
+    no_verb (report_bytes ++ rest) (λ r e. omega (arith, ap first e)) (λ r e. omega (arith, ap first e)) (λ e. more (omega (arith, ap length e)))
+
 -- the line that is read
 pub opening_reads : (rest : List ℕ) (f W D : ℕ) (cs : List ℕ) → Few (f ∷ W ∷ D ∷ cs) → length cs ≤ 16
     → rest ≡ fields (f ∷ W ∷ D ∷ cs) → Reads (open_bytes ++ rest) (opening f W D cs)

@@ -35,11 +35,15 @@ module _ (f : ℕ → Bool) (n s y : ℕ) (some : 0 < s) (most : s ≤ n) (made 
       let low : d ≡ cond (f (s - 1)) 1 0 = q ∙ byte_is b ∙ ap (λ k. cond k 1 0) e in
       rw (one_more, next, ← made) (omega (arith, low))
 
+  pub half_small : n ≤ 64 → y < 2 ^ 63
+  half_small n64 =
+      let fewer : n - s ≤ 63 = omega arith in
+      omega (arith, made, set_small f s (n - s), pow_mono fewer)
+
   pub set_small_down : n ≤ 64 → (b : Bool) (d : ℕ) → d ≡ from_bool b → 2 * y + d < 2 ^ 64
   set_small_down n64 b d q =
-      let fewer : n - s ≤ 63 = omega arith in
       let one : d ≤ 1 = rw q (byte_most b) in
-      omega (arith, made, set_small f s (n - s), pow_mono fewer)
+      omega (arith, half_small n64)
 
 -- the n lowest of 64 ones
 pub all_slots : (n : ℕ) → n ≤ 64 → 18446744073709551615 / 2 ^ (64 - n) ≡ set_of (λ s. true) 0 n

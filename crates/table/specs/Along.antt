@@ -13,7 +13,7 @@ use Rattle.rules.specs.Orders.{Tabled}
 use Rattle.laws.specs.Search.{any_same, all_more}
 use Rattle.laws.specs.Sets.{has_set}
 use Rattle.ledger.specs.Claims.{claim_found, claim_made}
-use Rattle.ledger.specs.Stamps.{returned, stamp_turn}
+use Rattle.ledger.specs.Stamps.{lent_cell, returned, stamp_turn}
 use Rattle.rows.specs.Slots.{set_same}
 use Rattle.rows.specs.Rows.{later, hits, stays, RowStamped, later_below}
 
@@ -43,6 +43,10 @@ own_walkable chip r t (Open d) own tabled = record { fits = own.fits; rows = tab
 -- each channel of the path has its row in the table
 pub row_room : {chip : Chip} {t path : List ℕ} {m : ℕ} → Walkable chip t path m → (i : ℕ) → i < m → 64 * get_or path i 0 + 64 ≤ length t
 row_room walk i h = omega (arith, walk.inside.at i h, walk.rows)
+
+-- a cell of the row that is lent, d being the number of its channel c
+pub lent_row : (t : List ℕ) (d c j : ℕ) → d ≡ c → j < 64 → get_or (take (64 * d + 64 - 64 * d) (drop (64 * d) t)) j 0 ≡ cell t c j
+lent_row t d c j e h = lent_cell t (64 * d) (64 * d + 64 - 64 * d) c j (ap (λ k. 64 * k) e) (omega arith)
 
 -- the leaves are told the shift of position i as k, turned round the wheel
 module _ (chip : Chip) (path : List ℕ) (i k : ℕ) (turned : k ≡ shift chip path i % chip.wheel.n) where

@@ -1,6 +1,7 @@
 -- What writing a text on a page means, and how texts behind one another make one.
-use Rattle.std.specs.Prelude.{◌≡◌, refl, List, [], ◌++◌, ℕ, ◌+◌, ◌-◌, ◌≤◌, length, take}
-use Rattle.std.proofs.Common.{sym, ap, ◌∙◌, arith, length-append}
+use Rattle.std.specs.Prelude.{◌≡◌, refl, List, [], ◌++◌, ℕ, ◌+◌, ◌-◌, ◌≤◌, length, take, drop}
+use Rattle.std.proofs.Common.{sym, ap, ◌∙◌, append_assoc, arith, length-append}
+use Rattle.std.proofs.Math.Seq.{paste, take-length}
 use borrow.Rule.Slice.PartMut.{put_mid, Post-is}
 use Rattle.grammar.specs.Writing.{written, written_length, written_on, written_none}
 use Rattle.texts.specs.declared.Page.{Page}
@@ -23,6 +24,19 @@ puts_nothing p = record { same = refl; len = omega arith; out = sym (written_non
 pub copied : (old text : List ℕ) (at : ℕ) → put_mid at (at + length text - at) old text ≡ written old at text
 unfolding written
 copied old text at = ap (λ rest. take at old ++ (text ++ rest)) (Post-is at (at + length text) old (omega arith))
+
+-- and one that is copied byte by byte
+pub puts_copied : (old : Page) (text : List ℕ) (new : Page) (i : ℕ) → new.out.ghost_name ≡ old.out.ghost_name → new.len ≡ old.len + i
+    → new.out.now ≡ paste old.out.now old.len text i → i ≡ length text → Puts old text new
+unfolding written
+puts_copied old text new i same len e all = record {
+  same = same;
+  len = len ∙ ap (λ n. old.len + n) all;
+  out =
+      e ∙ ap (paste old.out.now old.len text) all
+      ∙ append_assoc (take old.len old.out.now) (take (length text) text) (drop (old.len + length text) old.out.now)
+      ∙ ap (λ xs. take old.len old.out.now ++ (xs ++ drop (old.len + length text) old.out.now)) (take-length text);
+}
 
 -- one text, then another
 pub puts_then : {old mid new : Page} (a b : List ℕ) → Puts old a mid → Puts mid b new → Room old (a ++ b) → Puts old (a ++ b) new
