@@ -35,9 +35,10 @@ pub fn perform<T: FlowList>(
 ) -> Result<Yes, Refusal>
     ensures { PerformsOn T.count T.records T.Put chip table.old list.old call table.new list.new result }
 {
+    let n = T::count(list);
     let held = agree::held(table, list, chip);
     let r = flow_record(list, call.flow);
-    let yes = decide::decide(table, chip, T::count(list), held, r, call)?;
+    let yes = decide::decide(table, chip, n, held, r, call)?;
     let change = changes::change(r, call, yes);
     table::mark(table, chip, change.path, change.slots, change.value as u8);
     T::put(list, call.flow - 1, change.new);

@@ -9,29 +9,31 @@ ghost use Rattle.rules.specs.Wheels.{Legal, Measured, chosen, size, run_words, w
 
 use rules::{Wheel, Words};
 
-// Slot `on` of the wheel written down twice: what is left of it after N, without a division.
+// The slot after slot i, round the wheel and without a division.
 #[tactic(auto, using(crate::specs::Steps::first_turn, crate::specs::Steps::second_turn))]
-fn round(on: usize, n: usize) -> usize
-    requires { on < n + n }
-    ensures rest { result ≡ on % n }
+fn after(i: usize, n: usize) -> usize
+    requires { i < n }
+    ensures next { result ≡ (i + 1) % n }
     ensures below { result < n }
 {
-    if on < n { on } else { on - n }
+    if i + 1 < n { i + 1 } else { 0 }
 }
 
 // How many slots of x follow one another from slot `from` on, going round the wheel, and at most
 // `limit`.
+#[tactic(auto, using(crate::specs::Steps::first_turn))]
 fn stretch(x: u64, n: usize, from: usize, limit: usize) -> usize
     requires wheel { n ≤ 64 }
-    requires slot { from ≤ n }
-    requires once_round { limit ≤ n }
+    requires slot { from < n }
     ensures counted { result ≡ stretch (chosen n x) from limit }
     ensures limited { result ≤ limit }
 {
+    let mut slot = from;
     for count in 0..limit {
-        if !slots::has_slot(x, round(from + count, n)) {
+        if !slots::has_slot(x, slot) {
             return count;
         }
+        slot = after(slot, n);
     }
     limit
 }
@@ -95,7 +97,7 @@ fn gap_at(x: u64, n: usize, i: usize) -> usize
     ensures { result ≡ gap_at n x i }
 {
     if slots::has_slot(x, i) {
-        1 + stretch(!x, n, i + 1, n - 1)
+        1 + stretch(!x, n, after(i, n), n - 1)
     } else {
         0
     }

@@ -7,4 +7,4 @@ pub overflow_mul-i : goal.overflow_mul-i
 overflow_mul-i c = omega (arith, record_room c.args.list.now c.args.i c.requires.inside)
 
 pub write_record-requires : goal.write_record-requires
-write_record-requires c = (record_room c.args.list.now c.args.i c.requires.inside, c.requires.fits.len)
+write_record-requires c = (omega (arith, record_room c.args.list.now c.args.i c.requires.inside), c.requires.fits.len)

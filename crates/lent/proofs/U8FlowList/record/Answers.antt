@@ -7,4 +7,4 @@ pub overflow_mul-i : goal.overflow_mul-i
 overflow_mul-i c = omega (arith, record_room c.args.list.now c.args.i c.requires)
 
 pub record_at-requires : goal.record_at-requires
-record_at-requires c = record_room c.args.list.now c.args.i c.requires
+record_at-requires c = omega (arith, record_room c.args.list.now c.args.i c.requires)
