@@ -44,6 +44,10 @@ module _ (t b t' b' : List ℕ) (long : length b ≡ 1024) where
   unfolding Opens
   opened f d p a o = rw (count_sixteen b long) at o.answers
 
+  pub opened_short : (f : ℕ) (d : Demand) (p : Path) (a : Result Grant Refusal) → OpensBytes (chip_of wheel t) t b p.entries p.len f d t' b' a
+      → length (open_text f a) ≤ 83
+  opened_short f d p a o = open_short t (list_in b) p.entries p.len f d t' (list_in b') a (opened f d p a o)
+
   pub closed : (f : ℕ) (a : Result ℕ Refusal) → ClosesBytes (chip_of wheel t) t b f t' b' a
       → Closes (chip_of wheel t) t 16 (list_in b) f t' (list_in b') a
   unfolding Closes

@@ -1,7 +1,9 @@
 -- What the calls promise of a list that is lent as bytes: document 01's answer for the list that the bytes stand for, before
 -- and after, and every byte of it: a grant writes one record, a refusal nothing.
-use Rattle.std.specs.Prelude.{List, ℕ, Result}
+use Rattle.std.specs.Prelude.{◌≡◌, ◌⊎◌, List, ℕ, ◌-◌, ◌*◌, ◌≤◌, ◌<◌, Result}
+use Rattle.std.proofs.Common.{sym, ◌∙◌, inl, inr, arith}
 use Rattle.rules.specs.declared.Demand.{Demand}
+use Rattle.rules.specs.declared.Record.{Record}
 use Rattle.rules.specs.declared.Grant.{Grant}
 use Rattle.rules.specs.declared.Totals.{Totals}
 use Rattle.rules.specs.declared.Call.{Call}
@@ -10,9 +12,10 @@ use Rattle.rules.specs.declared.Refusal.{Refusal}
 use Rattle.rules.specs.Paths.{Chip}
 use Rattle.rules.specs.Orders.{Agrees, opening, closing}
 use Rattle.rules.specs.Promises.{of_opened, of_cleared, Reports}
-use Rattle.bytes_list.specs.Layout.{count_of, list_in}
+use Rattle.bytes_list.specs.Layout.{count_of, decoded, list_in}
+use Rattle.bytes_list.specs.ReadBack.{flow_decoded}
 use Rattle.lent.specs.Lists.{PutBytes}
-use Rattle.perform.specs.Performed.{PerformsOn}
+use Rattle.perform.specs.Performed.{RecordOf, PerformsOn}
 
 module _ (chip : Chip) (t b : List ℕ) where
   -- the list that the bytes stand for agrees with the table
@@ -32,3 +35,12 @@ module _ (chip : Chip) (t b : List ℕ) where
 
   abbrev pub ClosesBytes : ℕ → List ℕ → List ℕ → Result ℕ Refusal → Type 0
   ClosesBytes f t' b' a = PerformsBytes (closing f) t' b' (of_cleared a)
+
+-- the record that was read is the flow's
+pub listed_record : (b : List ℕ) (f : ℕ) (r : Record) → r ≡ decoded b (64 * (f - 1)) → 1 ≤ f → f ≤ count_of b → RecordOf (list_in b) (count_of b) f r
+listed_record b f r e one listed =
+    record { there = λ x y. e ∙ sym (flow_decoded b (f - 1) (omega arith)); otherwise = λ h. absurd (within h) }
+  where
+    within : (f < 1) ⊎ (count_of b < f) → ⊥
+    within (inl h) = omega arith
+    within (inr h) = omega arith

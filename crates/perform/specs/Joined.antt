@@ -18,7 +18,7 @@ use Rattle.rules.specs.Paths.{Chip, free_slots}
 use Rattle.rules.specs.Flows.{flow, held_cells, Own, Agree}
 use Rattle.rules.specs.Numbers.{number, Refuses, Passes}
 use Rattle.rules.specs.Orders.{Ready, Agrees, checked, order_of, call_order, report_order, opening, closing}
-use Rattle.rules.specs.Promises.{Grants, open_record, closed_record, change, Told, Marked, Performs, of_opened, of_cleared, Reports}
+use Rattle.rules.specs.Promises.{Grants, open_record, closed_record, change, Told, Marked, Performs, of_opened, of_cleared, Opens, Closes, Reports}
 use Rattle.laws.specs.Logic.{not_true_false, not_false_true, le_or_lt}
 use Rattle.laws.specs.Refusals.{passed, passes_front, Alike, alike_line, alike_given, alike_self, passes_alike, refuses_alike}
 use Rattle.laws.specs.Sets.{within_below, below_shift, below_small}
@@ -71,11 +71,24 @@ granted_small chip t path m W L g h grants =
     below_small g.slots 64
     (below_shift g.slots 64 (below_more chip.wheel.n g.slots h (within_below (free_below chip t path m) grants.best.within)))
 
+-- by the verb
+change_fits : (chip : Chip) (t : List ℕ) (n : ℕ) (disagree : Type 0) (r : Record) (call : Call) (v : Verb) (y : Yes)
+    → Passes (order_of chip t n disagree r.state call v) → Told chip t r call v y → Fitting (change r call v y).new
+unfolding open_record
+change_fits chip t n disagree r call (ToOpen d) (yes.Granted g) p told =
+    let ready = checked_ready chip t n disagree (passes_front (checked chip t n disagree) _ p) in
+    record {
+      len = (saw chip t n disagree r.state call d p).fits;
+      long = trimmed_long call.path.entries call.path.len;
+      slots = granted_small chip t call.path.entries call.path.len _ _ g ready.legal.n64 told;
+    }
+change_fits chip t n disagree r call (ToOpen d) (yes.Cells k) p told = absurd told
+change_fits chip t n disagree r call ToClose y p told = closed_fits
+
 -- a call that is granted has such a change, by the verb
 module _ (chip : Chip) (t : List ℕ) (n : ℕ) (agreed : Bool) (r : Record) (call : Call) (own : agreed ≡ true → Own chip r.state r) where
   pub writable : (v : Verb) (y : Yes) → Passes (order_of chip t n (agreed ≡ false) r.state call v) → Told chip t r call v y
       → Writable chip t (change r call v y)
-  unfolding open_record
   writable v y p told = go v y p told (checked_ready chip t n _ (passes_front (checked chip t n (agreed ≡ false)) _ p))
     where
       go : (v : Verb) (y : Yes) → Passes (order_of chip t n (agreed ≡ false) r.state call v) → Told chip t r call v y → Ready chip t n
@@ -86,11 +99,7 @@ module _ (chip : Chip) (t : List ℕ) (n : ℕ) (agreed : Bool) (r : Record) (ca
             legal = ready.legal;
             walkable = record { fits = admitted.fits; rows = ready.tabled.long; inside = admitted.inside };
             small = omega (arith, admitted.listed, ready.listed.most);
-            fits = record {
-              len = admitted.fits;
-              long = trimmed_long call.path.entries call.path.len;
-              slots = granted_small chip t call.path.entries call.path.len _ _ g ready.legal.n64 told;
-            };
+            fits = change_fits chip t n (agreed ≡ false) r call (ToOpen d) (yes.Granted g) p told;
           }
       go (ToOpen d) (yes.Cells k) p told ready = absurd told
       go ToClose y p told ready =
@@ -252,3 +261,19 @@ module _ {A : Type 0} (count : List A → ℕ) (records : List A → List Record
       go (Ok (yes.Granted g)) p = absurd p.answers.1
       go (Ok (yes.Cells k)) p = p
       go (Err q) p = p
+
+-- the same for a list of records, n being their number
+
+module _ (chip : Chip) (t : List ℕ) (n : ℕ) (list : List Record) (t' : List ℕ) (list' : List Record) where
+  pub as_opens : (path : List ℕ) (m f : ℕ) (d : Demand) (a : Result Yes Refusal) → Performs chip t n list (opening path m f d) t' list' a
+      → Opens chip t n list path m f d t' list' (to_opened a)
+  unfolding Opens
+  as_opens path m f d (Ok (yes.Granted g)) p = p
+  as_opens path m f d (Ok (yes.Cells k)) p = absurd p.1
+  as_opens path m f d (Err q) p = p
+
+  pub as_closes : (f : ℕ) (a : Result Yes Refusal) → Performs chip t n list (closing f) t' list' a → Closes chip t n list f t' list' (to_cleared a)
+  unfolding Closes
+  as_closes f (Ok (yes.Granted g)) p = absurd p.1
+  as_closes f (Ok (yes.Cells k)) p = p
+  as_closes f (Err q) p = p
