@@ -22,14 +22,14 @@ unfoldable pub Asks : List Line → Result (Unit {0}) Refusal → Type 0
 Asks lines (Ok u) = Passes lines
 Asks lines (Err q) = Refuses lines (number q)
 
--- the lines behind the four
-abbrev pub own_order : Chip → List ℕ → ℕ → State → Call → Verb → List Line
-own_order chip t n s call v = way_lines chip call v then (flow_lines n call.flow then state_lines chip t s call v)
-
 -- an order decides: it passes and the yes tells, or it refuses
 unfoldable pub Settles : List Line → Chip → List ℕ → Record → Call → Verb → Result Yes Refusal → Type 0
 Settles order chip t r call v (Ok y) = Passes order × Told chip t r call v y
 Settles order chip t r call v (Err q) = Refuses order (number q)
+
+-- the lines behind the gate
+abbrev pub own_order : Chip → List ℕ → ℕ → State → Call → Verb → List Line
+own_order chip t n s call v = way_lines chip call v then (flow_lines n call.flow then state_lines chip t s call v)
 
 abbrev pub DecidesOwn : Chip → List ℕ → ℕ → Record → Call → Verb → Result Yes Refusal → Type 0
 DecidesOwn chip t n r call v = Settles (own_order chip t n r.state call v) chip t r call v

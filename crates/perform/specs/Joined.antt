@@ -31,6 +31,7 @@ use Rattle.ledger.specs.Calls.{order_alike, to_opened, to_cleared}
 use Rattle.table.specs.Along.{Walkable, own_walkable}
 use Rattle.lent.specs.Lists.{Fitting, Form}
 use Rattle.decide.specs.Decisions.{Gates, Settles, Decides}
+use Rattle.decide.specs.Behind.{through}
 use Rattle.perform.specs.Performed.{RecordOf, PerformsOn}
 
 -- ---- the record of the flow
@@ -224,7 +225,7 @@ module _ {A : Type 0} (count : List A → ℕ) (records : List A → List Record
 pub entered : (chip : Chip) (t : List ℕ) (n : ℕ) (list : List Record) (held : Option ℕ) → IfSome held (λ k. k ≡ held_cells chip.wheel n list)
     → (k : ℕ) → Gates chip t n held (Ok k) → Passes (checked chip t n (is_some held ≡ false)) × (k ≡ held_cells chip.wheel n list)
 unfolding Gates
-entered chip t n list held known k g = (g.0, subst (λ o. IfSome o (λ k. k ≡ held_cells chip.wheel n list)) g.1 known)
+entered chip t n list held known k g = (through chip t n held k g, subst (λ o. IfSome o (λ k. k ≡ held_cells chip.wheel n list)) g.1 known)
 
 -- ---- opening and closing: the chip is made from wheel and table, the call from what was asked, and the answer is told in
 -- their words

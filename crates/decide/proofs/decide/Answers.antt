@@ -8,14 +8,13 @@ use Rattle.laws.specs.Refusals.{passed}
 use Rattle.ledger.specs.Lines.{checked_ready}
 use Rattle.table.specs.Along.{own_walkable}
 use Rattle.decide.specs.Decisions.{Gates, Asks, Settles}
-use Rattle.decide.specs.Behind.{refused_gate, refused_way, refused_flow, settled_behind, way_walkable}
+use Rattle.decide.specs.Behind.{through, refused_gate, refused_way, refused_flow, settled_behind, way_walkable}
 use Rattle.decide.proofs.decide.Goals.{In_ok-enter, In_ok-pass_way, In_ok-pass_flow}
 use Rattle.decide.proofs.decide.Goals as goal
 
 -- what has passed after each part
 gate : (c : In_ok-enter) → Passes (checked c.args.chip c.args.table.now c.args.n (is_some c.args.held ≡ false))
-unfolding Gates
-gate c = c.in_ok-enter.ensures.0
+gate c = through c.args.chip c.args.table.now c.args.n c.args.held _ c.in_ok-enter.ensures
 
 way : (c : In_ok-pass_way) → Passes (way_lines c.args.chip c.args.call c.args.call.verb)
 unfolding Asks

@@ -1,4 +1,5 @@
 -- 9, 11 and 12 are tests, each behind those before it; then bare selection decides.
+use Rattle.std.specs.Prelude.{Ok, Err}
 use Rattle.std.proofs.Common.{◌≡◌, sym, ◌∙◌, false, List, ℕ, ◌-◌, ◌≤◌, ◌<◌, arith}
 use Rattle.std.proofs.lemmas.Result.{err_from_is_err_and}
 use Rattle.rules.specs.declared.Demand.{Demand}
@@ -12,7 +13,7 @@ use Rattle.rules.specs.Orders.{state_lines}
 use Rattle.laws.specs.Logic.{not_both}
 use Rattle.laws.specs.Refusals.{before, first, more, none_before}
 use Rattle.decide.specs.Decisions.{Settles}
-use Rattle.decide.specs.Behind.{selection_grants, selection_refuses}
+use Rattle.decide.specs.Behind.{selection_settles}
 use Rattle.decide.proofs.decide_opening.Goals.{After-select}
 use Rattle.decide.proofs.decide_opening.Goals as goal
 
@@ -65,18 +66,17 @@ unfolding allowed
 left c = omega (arith, c.travel-travel.ensures, c.from-last.ensures)
 
 pub returns-in_err-granted : goal.returns-in_err-granted
-unfolding Settles
 returns-in_err-granted c =
     let p = err_from_is_err_and c.from_residual.result c.from_residual.ensures.1 in
     let at = (goal.at.returns-in_err-granted c).After-select in
     let a = c.args in
     rw (p.1, p.2)
-    (selection_refuses _ a.chip a.table.now a.r a.call a.demand _ _ c.requires.legal (omega arith) (omega arith)
-    c.free_slots-free.ensures (left at) (passed at) _ c.in_err-granted.ensures)
+    (selection_settles (before (state_lines a.chip a.table.now a.r.state a.call (ToOpen a.demand)) 13) a.chip a.table.now a.r a.call a.demand _ _
+    c.requires.legal (omega arith) (omega arith) c.free_slots-free.ensures (left at) (passed at) (Err c.in_err-granted.field-0.0) c.in_err-granted.ensures)
 
 pub returns : goal.returns
 returns c =
     let at = (goal.at.returns c).After-select in
     let a = c.args in
-    selection_grants _ a.chip a.table.now a.r a.call a.demand _ _ c.requires.legal (omega arith) (omega arith)
-    c.free_slots-free.ensures (left at) (passed at) _ c.in_ok-granted.ensures
+    selection_settles (before (state_lines a.chip a.table.now a.r.state a.call (ToOpen a.demand)) 13) a.chip a.table.now a.r a.call a.demand _ _
+    c.requires.legal (omega arith) (omega arith) c.free_slots-free.ensures (left at) (passed at) (Ok c.in_ok-granted.granted) c.in_ok-granted.ensures
