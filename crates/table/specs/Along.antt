@@ -72,14 +72,22 @@ unfolding free all
 free_start chip t path = refl
 
 -- the row of position i has been asked
-pub free_turn : (chip : Chip) (t path row : List ℕ) (c i k x : ℕ) → Legal chip.wheel → k ≡ shift chip path i % chip.wheel.n
-    → x ≡ set_of (free chip t path i) 0 chip.wheel.n → IsRow t c row → c ≡ get_or path i 0
+pub free_turn : (chip : Chip) (t path row : List ℕ) (i k x : ℕ) → 1 ≤ chip.wheel.n → k ≡ shift chip path i % chip.wheel.n
+    → x ≡ set_of (free chip t path i) 0 chip.wheel.n
+    → ((j : ℕ) → j < chip.wheel.n → get_or row j 0 ≡ cell t (get_or path i 0) j)
     → set_of (stays row chip.wheel.n k x) 0 chip.wheel.n ≡ set_of (free chip t path (i + 1)) 0 chip.wheel.n
 unfolding free stays usable
-free_turn chip t path row c i k x legal turned made lent e =
+free_turn chip t path row i k x n1 turned made cells =
     set_same _ _ chip.wheel.n λ s h.
-    rw (all_more, made, ← seen_lent chip path i k turned t row c lent e legal s)
+    rw (all_more, made, seen_later chip path i k turned s, ← cells (later chip.wheel.n k s) (later_below chip.wheel.n k s n1))
     (ap (λ b. b && eqb (get_or row (later chip.wheel.n k s) 0) 0) (has_set _ chip.wheel.n 0 s h ∙ ap (free chip t path i) (zero-add s)))
+
+-- the row of a channel, which is that of position i
+pub free_asked : (chip : Chip) (t path row : List ℕ) (c i k x : ℕ) → Legal chip.wheel → k ≡ shift chip path i % chip.wheel.n
+    → x ≡ set_of (free chip t path i) 0 chip.wheel.n → IsRow t c row → c ≡ get_or path i 0
+    → set_of (stays row chip.wheel.n k x) 0 chip.wheel.n ≡ set_of (free chip t path (i + 1)) 0 chip.wheel.n
+free_asked chip t path row c i k x legal turned made lent e =
+    free_turn chip t path row i k x legal.n1 turned made λ j h. lent.at j (omega (arith, legal.n64)) ∙ ap (λ d. cell t d j) e
 
 pub free_end : (chip : Chip) (t path : List ℕ) (m x : ℕ) → x ≡ set_of (free chip t path m) 0 chip.wheel.n → x ≡ free_slots chip t path m
 unfolding free_slots

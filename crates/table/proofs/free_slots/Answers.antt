@@ -1,6 +1,6 @@
 -- After i positions x has the slots that are free as far as position i.
 use Rattle.std.proofs.Common.{◌≡◌, ◌∙◌, arith}
-use Rattle.table.specs.Along.{row_room, free_start, free_turn, free_end}
+use Rattle.table.specs.Along.{row_room, free_start, free_asked, free_end}
 use Rattle.table.proofs.free_slots.Goals as goal
 
 pub loop-i-init : goal.loop-i-init
@@ -13,7 +13,7 @@ pub loop-i-preserved : goal.loop-i-preserved
 loop-i-preserved c =
     let at = c.loop-i in
     rw c.turn.ensures.wheel at c.still_free-x.ensures
-    ∙ free_turn c.args.chip c.args.table.now c.args.path.entries _ _ at.i _ at.x c.requires.legal c.turn.ensures.shift at.invariant
+    ∙ free_asked c.args.chip c.args.table.now c.args.path.entries _ _ at.i _ at.x c.requires.legal c.turn.ensures.shift at.invariant
     c.cells-row.ensures c.channel.ensures
 
 pub returns : goal.returns
