@@ -14,7 +14,7 @@ use Rattle.grammar.specs.Answers.{open_text, close_text, report_text, bad_text}
 use Rattle.grammar.specs.Commands.{opening, closing, reporting, Reads, Bad}
 use Rattle.reading.specs.Told.{Opening}
 use Rattle.texts.specs.declared.Page.{Page}
-use Rattle.texts.specs.Puts.{Room, Puts, puts_then}
+use Rattle.texts.specs.Puts.{Puts, puts_then}
 use Rattle.grammar.specs.Listing.{wheel, State, ClosesFrom, ReportsFrom, Step, opens, closes, reports, bad}
 use Rattle.grammar.specs.Short.{open_short, close_short, report_short, bad_short, reads_long}
 use Rattle.answering.specs.declared.Board.{Board}

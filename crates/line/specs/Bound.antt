@@ -2,7 +2,7 @@
 -- and every header but the first is needed for a gap of at most L; so k slots pay at least a certain number of headers and
 -- cannot deliver more than what these leave. Starts that cannot win are passed over by this bound.
 use Rattle.std.specs.Prelude.{◌≡◌, refl, Bool, cond, ◌⊎◌, length, true, false, List, [], ◌∷◌, ℕ, zero, suc, ◌+◌, ◌-◌, ◌*◌, ◌/◌, ◌%◌, ◌≤◌, ◌<◌, min}
-use Rattle.std.proofs.Common.{◌∙◌, inl, inr, mul-le-mul_right, ap, arith, mod-lt}
+use Rattle.std.proofs.Common.{◌∙◌, inl, inr, mul-le-mul_right, div-lt_iff_lt-mul, ap, arith, mod-lt}
 use Rattle.rules.specs.Sets.{stretch}
 use Rattle.std.proofs.lemmas.Grind.{div_ceil_times}
 use Rattle.laws.specs.Logic.{le_or_lt}
@@ -200,3 +200,10 @@ ceil_least a b c r e h l = go (le_or_lt r c)
     go (inr d) =
         let more : (c + 1) * b ≤ r * b = mul-le-mul_right b (omega arith) in
         omega (arith, div_ceil_times a b h, ap (λ i. i * b) e)
+
+-- and so is the quotient as rule 2 writes it
+pub ceil_least_sum : (a b : ℕ) → 1 ≤ b → (c : ℕ) → a ≤ c * b → (a + b - 1) / b ≤ c
+ceil_least_sum a b h c e =
+    let q : a + b - 1 < suc c * b = omega arith in
+    let r = (div-lt_iff_lt-mul {k = b} {x = a + b - 1} {y = suc c} h).1 q in
+    omega arith

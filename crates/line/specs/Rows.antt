@@ -165,6 +165,15 @@ pub window_none : (cap e : ℕ) (hd old new : List ℕ) → Filled old new (e * 
 window_none cap e hd old new h =
     record { row = λ k l. h.row k l ∙ sym (most_none hd k (e + 2) (e + 2) (omega arith)); below = λ i l. refl; above = λ i l. refl; long = refl }
 
+-- and of one more, in a table
+pub window_filled : (cap e from p : ℕ) (hd old mid new : List ℕ) → from ≤ p
+    → Filled old mid (e * 64) (cap + 1) (λ k. most_of hd k from (p - from))
+    → Filled mid new (e * 64) (cap + 1) (λ k. max (entry hd p k) (entry mid e k))
+    → Filled old new (e * 64) (cap + 1) (λ k. most_of hd k from (p + 1 - from))
+window_filled cap e from p hd old mid new h a b =
+    filled_then old mid new (e * 64) (cap + 1) _ _ a
+    (filled_as mid new (e * 64) (cap + 1) _ _ b (λ k l. ap (max (entry hd p k)) (a.row k l) ∙ max_comm _ _ ∙ sym (most_more hd k from p h)))
+
 -- a row of the best heads of the positions before p, with those of position p too
 pub window_more : (hd old new vs : List ℕ) (from p j : ℕ) → from ≤ p → length new ≡ j → ((k : ℕ) → k < j → get_or vs k 0 ≡ entry hd p k)
     → ((k : ℕ) → k < j → get_or old k 0 ≡ most_of hd k from (p - from)) → Lifted old new vs
@@ -251,6 +260,21 @@ pub packets_none : (t : Task) (cap p : ℕ) (tl old new : List ℕ) → Filled o
     → Filled new new (p * 64) (cap + 1) (λ k. pack_most t tl p k 1 (min (1 - 1) k))
 packets_none t cap p tl old new h =
     record { row = λ k l. h.row k l ∙ sym (pack_none t tl p k); below = λ i l. refl; above = λ i l. refl; long = refl }
+
+-- and of up to q, in a table
+pub packets_filled : (t : Task) (cap p q w : ℕ) (tl old mid new : List ℕ) → 1 ≤ q → q ≤ cap → w ≡ packet_words t q
+    → Filled old mid (p * 64) (cap + 1) (λ k. pack_most t tl p k 1 (min (q - 1) k))
+    → Filled mid new (p * 64 + q) (cap + 1 - q) (λ i. max (get_or mid (p * 64 + q + i) 0) (raised w (entry tl (p + q - 1) i)))
+    → Filled old new (p * 64) (cap + 1) (λ k. pack_most t tl p k 1 (min (q + 1 - 1) k))
+packets_filled t cap p q w tl old mid new q1 qc e a b =
+    let one : q + 1 - 1 ≡ q = omega arith in
+    rw one
+    (filled_again old mid new (p * 64) (cap + 1) q _ _ (λ k. pack_most t tl p k 1 (min q k)) (omega arith) a b
+    (λ k l. pack_same t tl p k q l)
+    (λ i l.
+    let j : q + i - q ≡ i = omega arith in
+    ap₂ max (ap (λ x. get_or mid x 0) (omega arith) ∙ a.row (q + i) (omega arith)) (ap₂ raised e (ap (entry tl (p + q - 1)) (sym j)))
+    ∙ sym (pack_more t tl p (q + i) q q1 (omega arith))))
 
 -- a row of what the packets of fewer than q slots come to, with those of q slots too
 pub packets_more : (t : Task) (cap p q w : ℕ) (tl old new : List ℕ) → 1 ≤ q → q ≤ cap → w ≡ packet_words t q

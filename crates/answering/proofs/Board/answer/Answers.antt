@@ -1,8 +1,7 @@
 -- What the line means decides which of the four is done.
-use Rattle.std.proofs.Common.{arith, ap, ◌≡◌, Some, None}
+use Rattle.std.proofs.Common.{arith, None}
 use Rattle.grammar.specs.Short.{bad_short}
 use Rattle.reading.specs.Told.{told}
-use Rattle.reading.specs.declared.Request.TheVariants.{Open, Close, Report}
 use Rattle.answering.specs.Lines.{lined_open, lined_close, lined_report, lined_bad}
 use Rattle.answering.proofs.Board.answer.Goals as goal
 
