@@ -20,7 +20,7 @@ use Rattle.grammar.specs.Short.{open_short, close_short, report_short, bad_short
 use Rattle.answering.specs.declared.Board.{Board}
 
 -- the state that table and list stand for
-abbrev pub state : Board → State
+abbrev pub state : {N : ℕ} → Board N → State
 state b = record { table = b.table; list = list_in b.list }
 
 -- the page has room for so many bytes

@@ -17,21 +17,21 @@ const WHEEL: Wheel = Wheel {
     p: 3,
 };
 
-// What the lines work on: the table of 16 channels, and the list of 16 flows.
+// What the lines work on: a table of N bytes, and a list of 16 flows.
 #[derive(Drop)]
-pub struct Board {
-    pub table: [u8; 1024],
+pub struct Board<const N: usize> {
+    pub table: [u8; N],
     pub list: [u8; 1024],
 }
 
-impl Board {
+impl<const N: usize> Board<N> {
     // All cells free, all flows closed.
-    pub fn empty() -> Board
-        ensures table { result.table ≡ replicate 1024 0 }
+    pub fn empty() -> Board<N>
+        ensures table { result.table ≡ replicate N 0 }
         ensures list { result.list ≡ replicate 1024 0 }
     {
         Board {
-            table: [0; 1024],
+            table: [0; N],
             list: [0; 1024],
         }
     }

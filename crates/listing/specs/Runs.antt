@@ -121,7 +121,7 @@ unfolding records
 zeros_records n zero i = refl
 zeros_records n (suc m) i = rw (zeros_record n (64 * i), zeros_records n m (suc i))
 
-start_is : (b : Board) → b.table ≡ zeros 1024 → b.list ≡ zeros 1024 → state b ≡ start
+start_is : (b : Board 1024) → b.table ≡ zeros 1024 → b.list ≡ zeros 1024 → state b ≡ start
 unfolding start list_in
 start_is b table list =
     let closed : list_in (zeros 1024) ≡ replicate 16 closed_record =
@@ -158,7 +158,7 @@ writes_long input out old new is empty room long p =
       rest = left;
     })
 
-pub writes_lines : (input out : List ℕ) (b : Board) (old new : Page) → out ≡ new.out.now → 65536 ≤ length old.out.now → length input ≤ 4096
+pub writes_lines : (input out : List ℕ) (b : Board 1024) (old new : Page) → out ≡ new.out.now → 65536 ≤ length old.out.now → length input ≤ 4096
     → b.table ≡ replicate 1024 0 → b.list ≡ replicate 1024 0 → Ran input (state b) old new → Writes input old.out.now out new.len
 writes_lines input out b old new is room small table list ran =
     rw is

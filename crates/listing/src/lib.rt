@@ -9,8 +9,11 @@ ghost use Rattle.listing.specs.Runs.{Room, Ran};
 use answering::Board;
 use texts::Page;
 
+// The bytes of the listing's table: 64 for each of 16 channels.
+const TABLE: usize = 1024;
+
 // All lines of the input.
-fn run(input: &[u8], board: &mut Board, page: &mut Page)
+fn run(input: &[u8], board: &mut Board<TABLE>, page: &mut Page)
     requires { Room input.now page.old }
     ensures { Ran input.now (state board.old) page.old page.new }
 {
@@ -39,7 +42,7 @@ pub fn list(input: &[u8], out: &mut [u8]) -> usize
         page.put(b"input too long\n");
         return page.len;
     }
-    let mut board = Board::empty();
+    let mut board = Board::<TABLE>::empty();
     run(input, &mut board, &mut page);
     page.len
 }

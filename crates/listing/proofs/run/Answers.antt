@@ -7,7 +7,7 @@ pub loop-line-init : goal.loop-line-init
 loop-line-init c = going_start _ _ _ c.requires
 
 pub line-requires : goal.line-requires
-line-requires c = line_room _ _ _ c.requires _ _ _ _ c.loop-line.invariant (omega (arith, c.in-Some.ensures.on))
+line-requires c = (omega arith, line_room _ _ _ c.requires _ _ _ _ c.loop-line.invariant (omega (arith, c.in-Some.ensures.on)))
 
 pub overflow_add-k : goal.overflow_add-k
 overflow_add-k c = omega (arith, c.loop-line.invariant.count, c.requires.small)

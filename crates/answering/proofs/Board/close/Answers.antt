@@ -5,10 +5,10 @@ use Rattle.answering.specs.Lines.{closed}
 use Rattle.answering.proofs.Board.close.Goals as goal
 
 pub put_close-requires : goal.put_close-requires
-put_close-requires c = omega (arith, c.requires, close_short c.args.flow c.close-answer.result)
+put_close-requires g c = omega (arith, c.requires, close_short c.args.flow c.close-answer.result)
 
 pub returns : goal.returns
-returns c =
+returns g c =
     let long : length c.args.self.now.list ≡ 1024 = omega arith in
     let answer = c.close-answer in
     record {

@@ -6,7 +6,7 @@ use Rattle.answering.specs.Lines.{opened}
 use Rattle.answering.proofs.Board.open.Goals as goal
 
 pub put_open-requires : goal.put_open-requires
-put_open-requires c =
+put_open-requires g c =
     let a = c.args in
     let long : length a.self.now.list ≡ 1024 = omega arith in
     let answer = c.open-answer in
@@ -16,7 +16,7 @@ put_open-requires c =
     omega (arith, c.requires, short)
 
 pub returns : goal.returns
-returns c =
+returns g c =
     let a = c.args in
     let long : length a.self.now.list ≡ 1024 = omega arith in
     let answer = c.open-answer in

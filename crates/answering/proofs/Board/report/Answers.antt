@@ -5,10 +5,10 @@ use Rattle.answering.specs.Lines.{reported}
 use Rattle.answering.proofs.Board.report.Goals as goal
 
 pub put_report-requires : goal.put_report-requires
-put_report-requires c = omega (arith, c.requires, report_short c.report-answer.result)
+put_report-requires g c = omega (arith, c.requires, report_short c.report-answer.result)
 
 pub returns : goal.returns
-returns c =
+returns g c =
     let long : length c.args.self.now.list ≡ 1024 = omega arith in
     let answer = c.report-answer in
     record { answer = answer.result; reports = reported _ _ answer.result long answer.ensures; puts = c.put_report.ensures }
