@@ -46,8 +46,8 @@ pub put-requires-clause-inside : goal.put-requires-clause-inside
 put-requires-clause-inside g c =
     let l = g.T.FlowList in
     let inside =
-        flow_inside l.count l.records l.Put l.form _ _ _ _ c.held-held.ensures.agree _ c.args.call c.flow_record-r.ensures _ c.count-n.ensures
-        _ c.in_ok-yes.ensures _ c.change-change.ensures in
+    flow_inside l.count l.records l.Put l.form _ _ _ _ c.held-held.ensures.agree _ c.args.call c.flow_record-r.ensures _ c.count-n.ensures
+    _ c.in_ok-yes.ensures _ c.change-change.ensures in
     omega (arith, inside)
 
 pub put-requires-clause-fits : goal.put-requires-clause-fits
