@@ -37,10 +37,11 @@ module _ (chip : Chip) (t b : List ℕ) where
   ClosesBytes f t' b' a = PerformsBytes (closing f) t' b' (of_cleared a)
 
 -- the record that was read is the flow's
-pub listed_record : (b : List ℕ) (f : ℕ) (r : Record) → r ≡ decoded b (64 * (f - 1)) → 1 ≤ f → f ≤ count_of b → RecordOf (list_in b) (count_of b) f r
-listed_record b f r e one listed =
-    record { there = λ x y. e ∙ sym (flow_decoded b (f - 1) (omega arith)); otherwise = λ h. absurd (within h) }
+pub listed_record : (b : List ℕ) (f : ℕ) (r : Record) → r ≡ decoded b (64 * (f - 1)) → 1 ≤ f → f ≤ count_of b → f ≤ 64 → RecordOf (list_in b) (count_of b) f r
+listed_record b f r e one listed most =
+    record { there = λ x y z. e ∙ sym (flow_decoded b (f - 1) (omega arith)); otherwise = λ h. absurd (within h) }
   where
-    within : (f < 1) ⊎ (count_of b < f) → ⊥
+    within : (f < 1) ⊎ ((count_of b < f) ⊎ (64 < f)) → ⊥
     within (inl h) = omega arith
-    within (inr h) = omega arith
+    within (inr (inl h)) = omega arith
+    within (inr (inr h)) = omega arith

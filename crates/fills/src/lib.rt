@@ -3,7 +3,7 @@
 #![tactic(auto)]
 
 ghost use Rattle.std.specs.Prelude.{◌≡◌, ℕ, ◌+◌, ◌<◌, length, get_or};
-ghost use Rattle.line.specs.Rows.{Picked, Lifted, Raised};
+ghost use Rattle.line.specs.Rows.{Picked, RowLifted, RowRaised};
 
 // The row becomes the better of the heads and the tails.
 pub fn pick(row: &mut [u16], heads: &[u16], tails: &[u16])
@@ -18,7 +18,7 @@ pub fn pick(row: &mut [u16], heads: &[u16], tails: &[u16])
 // The row becomes at least the values. To raise it by 0 words would say the same, and take longer.
 pub fn lift(row: &mut [u16], values: &[u16])
     requires { length values.now ≡ length row.old }
-    ensures { Lifted row.old row.new values.now }
+    ensures { RowLifted row.old row.new values.now }
 {
     for i in 0..row.len() {
         row[i] = positions::better(values[i], row[i]);
@@ -29,7 +29,7 @@ pub fn lift(row: &mut [u16], values: &[u16])
 pub fn raise(row: &mut [u16], values: &[u16], words: u16)
     requires same_length { length values.now ≡ length row.old }
     requires by_index { (i : ℕ) → i < length row.old → words + get_or values.now i 0 < 65536 }
-    ensures { Raised row.old row.new values.now words }
+    ensures { RowRaised row.old row.new values.now words }
 {
     for i in 0..row.len() {
         row[i] = positions::better(row[i], positions::raised(words, values[i]));

@@ -26,12 +26,12 @@ abbrev pub Picked : List ℕ → List ℕ → List ℕ → Type 0
 Picked new hd tl = (i : ℕ) → i < length new → get_or new i 0 ≡ max (get_or hd i 0) (get_or tl i 0)
 
 -- a row becomes at least other values
-abbrev pub Lifted : List ℕ → List ℕ → List ℕ → Type 0
-Lifted old new vs = (i : ℕ) → i < length new → get_or new i 0 ≡ max (get_or vs i 0) (get_or old i 0)
+abbrev pub RowLifted : List ℕ → List ℕ → List ℕ → Type 0
+RowLifted old new vs = (i : ℕ) → i < length new → get_or new i 0 ≡ max (get_or vs i 0) (get_or old i 0)
 
 -- a row becomes at least other values with `words` more on top
-abbrev pub Raised : List ℕ → List ℕ → List ℕ → ℕ → Type 0
-Raised old new vs words = (i : ℕ) → i < length new → get_or new i 0 ≡ max (get_or old i 0) (raised words (get_or vs i 0))
+abbrev pub RowRaised : List ℕ → List ℕ → List ℕ → ℕ → Type 0
+RowRaised old new vs words = (i : ℕ) → i < length new → get_or new i 0 ≡ max (get_or old i 0) (raised words (get_or vs i 0))
 
 pub filled_none : (old : List ℕ) (base : ℕ) (e : ℕ → ℕ) → Filled old old base 0 e
 filled_none old base e = record { row = λ i h. absurd (omega arith); below = λ i h. refl; above = λ i h. refl; long = refl }
@@ -135,7 +135,7 @@ pub picked_is : (new hd tl : List ℕ) (j : ℕ) (d e : ℕ → ℕ) → length 
     → ((k : ℕ) → k < j → get_or tl k 0 ≡ e k) → (k : ℕ) → k < j → get_or new k 0 ≡ max (d k) (e k)
 picked_is new hd tl j d e long up a b k l = up k (omega arith) ∙ ap₂ max (a k l) (b k l)
 
-pub raised_is : (old new vs : List ℕ) (words j : ℕ) (d e : ℕ → ℕ) → length new ≡ j → Raised old new vs words
+pub raised_is : (old new vs : List ℕ) (words j : ℕ) (d e : ℕ → ℕ) → length new ≡ j → RowRaised old new vs words
     → ((k : ℕ) → k < j → get_or old k 0 ≡ d k) → ((k : ℕ) → k < j → get_or vs k 0 ≡ e k)
     → (k : ℕ) → k < j → get_or new k 0 ≡ max (d k) (raised words (e k))
 raised_is old new vs words j d e long up a b k l = up k (omega arith) ∙ ap₂ max (a k l) (ap (raised words) (b k l))
@@ -176,7 +176,7 @@ window_filled cap e from p hd old mid new h a b =
 
 -- a row of the best heads of the positions before p, with those of position p too
 pub window_more : (hd old new vs : List ℕ) (from p j : ℕ) → from ≤ p → length new ≡ j → ((k : ℕ) → k < j → get_or vs k 0 ≡ entry hd p k)
-    → ((k : ℕ) → k < j → get_or old k 0 ≡ most_of hd k from (p - from)) → Lifted old new vs
+    → ((k : ℕ) → k < j → get_or old k 0 ≡ most_of hd k from (p - from)) → RowLifted old new vs
     → (k : ℕ) → k < j → get_or new k 0 ≡ most_of hd k from (p + 1 - from)
 window_more hd old new vs from p j h long at best up k l =
     up k (omega arith) ∙ ap₂ max (at k l) (best k l) ∙ max_comm _ _ ∙ sym (most_more hd k from p h)

@@ -39,15 +39,16 @@ use Rattle.perform.specs.Performed.{RecordOf, PerformsOn}
 -- a record of a list that agrees obeys its own rules, and so does the closed one
 pub record_own : (chip : Chip) (t : List ℕ) (n : ℕ) (list : List Record) (f : ℕ) (r : Record) → RecordOf list n f r → Agrees chip t n list
     → Own chip r.state r
-record_own chip t n list f r is agrees = go (le_or_lt 1 f) (le_or_lt f n)
+record_own chip t n list f r is agrees = go (le_or_lt 1 f) (le_or_lt f n) (le_or_lt f 64)
   where
     none : r ≡ closed_record → Own chip r.state r
     none e = subst (λ x. Own chip x.state x) (sym e) (closed_own chip)
 
-    go : (1 ≤ f) ⊎ (f < 1) → (f ≤ n) ⊎ (n < f) → Own chip r.state r
-    go (inl a) (inl b) = subst (λ x. Own chip x.state x) (sym (is.there a b)) (agrees.agree.own (f - 1) (omega arith))
-    go (inl a) (inr b) = none (is.otherwise (inr b))
-    go (inr a) b = none (is.otherwise (inl a))
+    go : (1 ≤ f) ⊎ (f < 1) → (f ≤ n) ⊎ (n < f) → (f ≤ 64) ⊎ (64 < f) → Own chip r.state r
+    go (inl a) (inl b) (inl c) = subst (λ x. Own chip x.state x) (sym (is.there a b c)) (agrees.agree.own (f - 1) (omega arith))
+    go (inl a) (inl b) (inr c) = none (is.otherwise (inr (inr c)))
+    go (inl a) (inr b) c = none (is.otherwise (inr (inl b)))
+    go (inr a) b c = none (is.otherwise (inl a))
 
 -- ---- what is written fits its place
 
@@ -152,7 +153,7 @@ module _ (chip : Chip) (t : List ℕ) (n : ℕ) (list : List Record) (agreed : B
     alike : Alike (order_of chip t n (agreed ≡ false) r.state call call.verb) (call_order chip t n list call)
     alike =
         order_alike chip t t n _ _ _ _ call call.verb begins
-        (λ p one most. ap (λ x. x.state) (same.there one most)) (λ _ _ _. refl)
+        (λ p one most. ap (λ x. x.state) (same.there one most (omega (arith, (checked_ready chip t n _ p).listed.most)))) (λ _ _ _. refl)
 
     pub refused : (q : Refusal) → Decides chip t n (agreed ≡ false) r call call.verb (Err q) → Refuses (call_order chip t n list call) (number q)
     unfolding Settles
@@ -165,7 +166,10 @@ module _ (chip : Chip) (t : List ℕ) (n : ℕ) (list : List Record) (agreed : B
       listed = named chip t n _ _ call call.verb d.0
 
       is : r ≡ flow list (call.flow - 1)
-      is = same.there listed.0 listed.1
+      unfolding Settles
+      is =
+          let few = (checked_ready chip t n _ (passes_front (checked chip t n (agreed ≡ false)) _ d.0)).listed.most in
+          same.there listed.0 listed.1 (omega (arith, few, listed.1))
 
       pub written : Writable chip t (change r call call.verb y)
       unfolding Settles

@@ -11,8 +11,8 @@ use Rattle.rules.specs.Promises.{closed_record, change, Performs}
 
 -- the record of flow f of n; the closed one where there is no such flow
 pub record RecordOf (list : List Record) (n f : ℕ) (r : Record) : Type 0 where
-  pub there : 1 ≤ f → f ≤ n → r ≡ flow list (f - 1)
-  pub otherwise : (f < 1) ⊎ (n < f) → r ≡ closed_record
+  pub there : 1 ≤ f → f ≤ n → f ≤ 64 → r ≡ flow list (f - 1)
+  pub otherwise : (f < 1) ⊎ ((n < f) ⊎ (64 < f)) → r ≡ closed_record
 
 -- a form of the list, as `lent` has it: how many records it has, which, and what it is with a record put in a place
 module _ {A : Type 0} (count : List A → ℕ) (records : List A → List Record) (Put : List A → ℕ → Record → List A → Type 0) where

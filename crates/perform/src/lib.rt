@@ -23,6 +23,9 @@ fn flow_record<T: FlowList>(list: &[T], flow: usize) -> Record
     if T::count(list) < flow {
         return changes::closed_record();
     }
+    if 64 < flow {
+        return changes::closed_record();
+    }
     T::record(list, flow - 1)
 }
 
