@@ -1,7 +1,8 @@
--- What is asked of a form of the list, and that lists of records and lists of bytes are forms.
-use Rattle.std.specs.Prelude.{◌≡◌, List, ℕ, ◌+◌, ◌*◌, ◌≤◌, ◌<◌, length, set}
+-- What is asked of a form of the list, that lists of records and lists of bytes are forms, and one record of a list at any index.
+use Rattle.std.specs.Prelude.{◌≡◌, Bool, ◌&&◌, cond, List, ℕ, ◌+◌, ◌*◌, ◌≤◌, ◌<◌, length, set, ltb}
 use Rattle.std.proofs.Common.{ap, ◌∙◌, arith, length-set}
 use Rattle.rules.specs.declared.Record.{Record}
+use Rattle.rules.specs.Flows.{flow}
 use Rattle.bytes_list.specs.Layout.{count_of, list_in, Written}
 use Rattle.bytes_list.specs.ReadBack.{count_room, count_same, list_written}
 
@@ -35,3 +36,13 @@ bytes_form = record { put = λ b i r b' h fits w. (count_same b b' w.long, list_
 -- there is room for each record
 pub record_room : (b : List ℕ) (i : ℕ) → i < count_of b → 64 * i + 64 ≤ length b
 record_room b i h = omega (arith, count_room b)
+
+-- ---- any index
+
+-- record i of n, or `otherwise` past the end
+abbrev pub record_at : ℕ → List Record → ℕ → Record → Record
+record_at n list i otherwise = cond (ltb i n) (flow list i) otherwise
+
+-- r at place i if `go` says so and the list is that long
+abbrev pub replaced_if : List Record → Bool → ℕ → Record → List Record
+replaced_if list go i r = cond (go && ltb i (length list)) (set list i r) list

@@ -6,7 +6,7 @@ ghost use Rattle.std.specs.Prelude.{◌≡◌, List, ℕ, ◌<◌, length};
 ghost use Rattle.rules.specs.declared.Record.{Record};
 ghost use Rattle.rules.specs.Flows.{flow};
 ghost use Rattle.bytes_list.specs.Layout.{count_of, list_in};
-ghost use Rattle.lent.specs.Lists.{Fitting, Form, PutRecord, record_form, PutBytes, bytes_form};
+ghost use Rattle.lent.specs.Lists.{Fitting, Form, PutRecord, record_form, PutBytes, bytes_form, record_at, replaced_if};
 
 use rules::Record;
 
@@ -56,7 +56,7 @@ impl FlowList for Record {
     }
 
     fn put(list: &mut [Record], i: usize, r: Record) {
-        list[i] = r;
+        replace_if(list, true, i, r)
     }
 }
 
@@ -81,5 +81,25 @@ impl FlowList for u8 {
 
     fn put(list: &mut [u8], i: usize, r: Record) {
         bytes_list::write_record(list, 64 * i, r);
+    }
+}
+
+// Record i of the list, or `otherwise` past its end.
+pub fn record_at<T: FlowList>(list: &[T], i: usize, otherwise: Record) -> Record
+    ensures { result ≡ record_at (T.count list.now) (T.records list.now) i otherwise }
+{
+    if i < T::count(list) {
+        T::record(list, i)
+    } else {
+        otherwise
+    }
+}
+
+// Puts r at place i of a list of records if `go` says so and the list is that long.
+pub fn replace_if(list: &mut [Record], go: bool, i: usize, r: Record)
+    ensures { list.new ≡ replaced_if list.old go i r }
+{
+    if go && i < list.len() {
+        list[i] = r;
     }
 }

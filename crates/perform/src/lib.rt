@@ -17,16 +17,11 @@ use rules::{Call, Chip, Demand, Grant, Path, Record, Refusal, Totals, Wheel, Yes
 fn flow_record<T: FlowList>(list: &[T], flow: usize) -> Record
     ensures { RecordOf (T.records list.now) (T.count list.now) flow result }
 {
-    if flow < 1 {
-        return changes::closed_record();
+    let none = changes::closed_record();
+    if flow < 1 || 64 < flow {
+        return none;
     }
-    if T::count(list) < flow {
-        return changes::closed_record();
-    }
-    if 64 < flow {
-        return changes::closed_record();
-    }
-    T::record(list, flow - 1)
+    lent::record_at(list, flow - 1, none)
 }
 
 // Performs a call.
