@@ -3,8 +3,9 @@
 // numbers are plain, and bit i of a set is its slot i.
 #![tactic(auto)]
 
-ghost use Rattle.std.specs.Prelude.{◌≤◌, ◌<◌};
+ghost use Rattle.std.specs.Prelude.{◌≡◌, true, IfNone, ◌≤◌, ◌<◌};
 
+use std::cmp::Reverse;
 use std::fmt;
 
 // A wheel: its slots, the words of a slot, the words of a header, and the header's period.
@@ -216,7 +217,9 @@ fn list_first(n: u64, a: u64, b: u64, from: u64) -> bool {
 
 impl Wheel {
     // Whether every value of the wheel lies in its range.
-    pub fn fits(self) -> bool {
+    pub fn fits(self) -> bool
+        ensures { result ≡ true → self.n ≤ 64 }
+    {
         1 <= self.n
             && self.n <= 64
             && 2 <= self.s
@@ -299,7 +302,9 @@ impl Wheel {
 
 impl Asked {
     // The refusal that is given before any set is looked at.
-    pub fn refusal(self) -> Option<No> {
+    pub fn refusal(self) -> Option<No>
+        ensures { IfNone result (self.wheel.n ≤ 64) }
+    {
         if !self.wheel.fits() {
             return Some(No::BadWheel);
         }
@@ -322,12 +327,7 @@ impl Asked {
 
     // Whether some set of free slots delivers the words: a subset is no larger as a number.
     fn some_delivers(self) -> bool {
-        for y in (0..=self.free).rev() {
-            if self.delivers(y) {
-                return true;
-            }
-        }
-        false
+        (0..=self.free).rev().any(|y| self.delivers(y))
     }
 
     // The better of the best set so far and y, if y meets what is asked.
@@ -371,13 +371,22 @@ impl Asked {
 // The same search from a list, in which each set of a wheel of at most ten slots is measured once:
 // what is measured of the set x stands at x. It is quick enough for millions of searches.
 
+// What decides between two sets, in this order (rule 6): the lesser is that of the better set.
+#[derive(Clone, Copy, PartialEq, Eq, PartialOrd, Ord)]
+struct Rank {
+    size: u64,
+    words: Reverse<u64>,
+    start: u64,
+    mirror: Reverse<u64>,
+}
+
 // A set, its words, its largest gap and its rank.
 #[derive(Clone, Copy)]
 struct Measured {
     slots: u64,
     words: u64,
     gap: u64,
-    rank: u64,
+    rank: Rank,
 }
 
 impl Measured {
@@ -387,10 +396,9 @@ impl Measured {
     }
 }
 
-// A wheel and what is measured of each of its sets.
+// What is measured of each set of a wheel.
 #[derive(Drop)]
 pub struct Listed {
-    wheel: Wheel,
     sets: [Measured; 1024],
 }
 
@@ -407,14 +415,14 @@ fn mirror(n: u64, x: u64) -> u64 {
 }
 
 impl Wheel {
-    // The rank of a set of a wheel of at most 16 slots, smaller for the better set (rule 6): its
-    // size, how far its words lie below 8191, its smallest start and its mirror, each in digits of
-    // its own.
-    pub fn rank(self, x: u64) -> u64 {
-        let few = size(x) << 48;
-        let many = 8191_u64.saturating_sub(self.words(x)) << 32;
-        let soon = smallest_start(self.n, x) << 24;
-        few | many | soon | 65535_u64.saturating_sub(mirror(self.n, x))
+    // The rank of the set x.
+    fn rank(self, x: u64) -> Rank {
+        Rank {
+            size: size(x),
+            words: Reverse(self.words(x)),
+            start: smallest_start(self.n, x),
+            mirror: Reverse(mirror(self.n, x)),
+        }
     }
 
     // What is measured of the set x.
@@ -430,7 +438,6 @@ impl Wheel {
     // Every set measured.
     pub fn listed(self) -> Listed {
         Listed {
-            wheel: self,
             sets: std::array::from_fn(|x| self.measured(x as u64)),
         }
     }
@@ -469,19 +476,12 @@ impl Listed {
         best
     }
 
-    // Bare selection on the wheel, of at most 10 slots.
-    pub fn search(&self, free: u64, words: u64, limit: u64) -> Result<Grant, No> {
-        let wheel = self.wheel;
-        let asked = Asked {
-            wheel,
-            free,
-            words,
-            limit,
-        };
+    // Bare selection by the list of the wheel that is asked of, of at most 10 slots.
+    pub fn search(&self, asked: Asked) -> Result<Grant, No> {
         if let Some(no) = asked.refusal() {
             return Err(no);
         }
-        if 10 < wheel.n || 1024 <= free {
+        if 10 < asked.wheel.n || 1024 <= asked.free {
             return Err(No::TooLarge);
         }
         if !self.some_delivers(asked) {

@@ -7,7 +7,7 @@
 // after the start. Position 0 is taken and the last one is not.
 #![tactic(auto)]
 
-ghost use Rattle.std.specs.Prelude.{◌<◌};
+ghost use Rattle.std.specs.Prelude.{◌≡◌, true, ◌≤◌, ◌<◌};
 
 use apart::{Asked, Grant, No, Wheel};
 
@@ -20,28 +20,24 @@ struct Choice {
     image: u64,
 }
 
-// ---- the table: in row j, 1 to 63, at e the best choice of j slots behind a run that ends at e; and
-// behind all of these, in a row of its own, at i the best choice of as many that begins at i
+// ---- the table
 
-type Table = [Option<Choice>; 4160];
-
-// Where the choice of j slots behind a run that ends at e stands.
-fn behind(j: u64, e: u64) -> usize
-    ensures { result < 4160 }
-{
-    ((j % 64) * 64 + e % 64) as usize
+// The best choices of j slots: behind[j][e] of those behind a run that ends at e, j from 1 to 63; and,
+// for the j at hand, begun[i] of those that begin at i.
+#[derive(Drop)]
+struct Table {
+    behind: [[Option<Choice>; 64]; 64],
+    begun: [Option<Choice>; 64],
 }
 
-// Where the choice that begins at i stands.
-fn begun(i: u64) -> usize
-    ensures { result < 4160 }
-{
-    (4096 + i % 64) as usize
-}
-
-// A table of nothing.
-fn empty() -> Table {
-    [None; 4160]
+impl Table {
+    // A table of nothing.
+    fn empty() -> Table {
+        Table {
+            behind: [[None; 64]; 64],
+            begun: [None; 64],
+        }
+    }
 }
 
 // ---- one run, and what follows it
@@ -72,13 +68,17 @@ fn longer(w: Wheel, run: Choice, i: u64, q: u64) -> Choice {
 }
 
 // Whether position i can be taken: it is free, and not the last of the wheel.
-fn opens(asked: Asked, i: u64) -> bool {
+fn opens(asked: Asked, i: u64) -> bool
+    ensures { result ≡ true → i < 64 }
+{
     i < 64 && i + 1 < asked.wheel.n && apart::chosen(asked.free, i)
 }
 
 // A run that ends at e, with the best choice of `left` slots behind it. With none left, the gap over
 // the wrap is looked at, from e to position N.
-fn joined(table: &Table, asked: Asked, run: Choice, e: u64, left: u64) -> Option<Choice> {
+fn joined(table: &Table, asked: Asked, run: Choice, e: u64, left: u64) -> Option<Choice>
+    requires { (e < 64) × (left < 64) }
+{
     if left == 0 {
         return if asked.wheel.n <= e.wrapping_add(asked.limit) {
             Some(run)
@@ -86,7 +86,7 @@ fn joined(table: &Table, asked: Asked, run: Choice, e: u64, left: u64) -> Option
             None
         };
     }
-    let rest = table[behind(left, e)]?;
+    let rest = table.behind[left as usize][e as usize]?;
     Some(Choice {
         words: run.words.wrapping_add(rest.words),
         image: run.image | rest.image,
@@ -95,7 +95,9 @@ fn joined(table: &Table, asked: Asked, run: Choice, e: u64, left: u64) -> Option
 
 // The best choice of j slots that begins with a run from position i: a run of each length, and the
 // best behind it.
-fn from(table: &Table, asked: Asked, i: u64, j: u64) -> Option<Choice> {
+fn from(table: &Table, asked: Asked, i: u64, j: u64) -> Option<Choice>
+    requires { j ≤ 64 }
+{
     let mut best = None;
     let mut run = Choice { words: 0, image: 0 };
     for q in 0..j {
@@ -110,7 +112,9 @@ fn from(table: &Table, asked: Asked, i: u64, j: u64) -> Option<Choice> {
 }
 
 // The best choice that begins behind e, a position after it left out, with no gap above the limit.
-fn next_from(table: &Table, asked: Asked, e: u64) -> Option<Choice> {
+fn next_from(table: &Table, asked: Asked, e: u64) -> Option<Choice>
+    requires { asked.wheel.n ≤ 64 }
+{
     let n = asked.wheel.n;
     let mut best = None;
     for gap in 2..=asked.limit.min(n) {
@@ -118,7 +122,7 @@ fn next_from(table: &Table, asked: Asked, e: u64) -> Option<Choice> {
         if n <= i {
             return best;
         }
-        best = table[begun(i)].max(best);
+        best = table.begun[i as usize].max(best);
     }
     best
 }
@@ -126,27 +130,33 @@ fn next_from(table: &Table, asked: Asked, e: u64) -> Option<Choice> {
 // ---- all choices of j slots
 
 // The choices of j slots that begin at each position.
-fn begin_all(table: &mut Table, asked: Asked, j: u64) {
+fn begin_all(table: &mut Table, asked: Asked, j: u64)
+    requires { (asked.wheel.n ≤ 64) × (j ≤ 64) }
+{
     for i in 0..asked.wheel.n {
-        table[begun(i)] = from(table, asked, i, j);
+        table.begun[i as usize] = from(table, asked, i, j);
     }
 }
 
 // The choices of j slots behind each position that can be taken.
-fn follow_all(table: &mut Table, asked: Asked, j: u64) {
+fn follow_all(table: &mut Table, asked: Asked, j: u64)
+    requires { (asked.wheel.n ≤ 64) × (j < 64) }
+{
     for e in 0..asked.wheel.n {
         if apart::chosen(asked.free, e) {
-            table[behind(j, e)] = next_from(table, asked, e);
+            table.behind[j as usize][e as usize] = next_from(table, asked, e);
         }
     }
 }
 
 // The fewest slots, at most `most`, that deliver the words from this start, with the best choice of
 // so many.
-fn fewest(table: &mut Table, asked: Asked, most: u64) -> Option<(u64, Choice)> {
+fn fewest(table: &mut Table, asked: Asked, most: u64) -> Option<(u64, Choice)>
+    requires { (asked.wheel.n ≤ 64) × (most < 64) }
+{
     for j in 1..=most {
         begin_all(table, asked, j);
-        if let Some(got) = table[begun(0)]
+        if let Some(got) = table.begun[0]
             && asked.words <= got.words
         {
             return Some((j, got));
@@ -180,7 +190,9 @@ fn slots_of(n: u64, a: u64, image: u64) -> u64 {
 
 // The better of the best so far and what start a has, of at most `most` slots. A set with an earlier
 // start was found there, so that of two that are equal the earlier stays.
-fn with_start(table: &mut Table, asked: Asked, a: u64, best: Option<Grant>) -> Option<Grant> {
+fn with_start(table: &mut Table, asked: Asked, a: u64, best: Option<Grant>) -> Option<Grant>
+    requires { asked.wheel.n ≤ 64 }
+{
     let n = asked.wheel.n;
     if !apart::chosen(asked.free, a) {
         return best;
@@ -189,9 +201,10 @@ fn with_start(table: &mut Table, asked: Asked, a: u64, best: Option<Grant>) -> O
         free: seen_from(n, asked.free, a),
         ..asked
     };
+    let all_but_one = n.saturating_sub(1);
     let most = match best {
-        Some(set) => set.count,
-        None => n.saturating_sub(1),
+        Some(set) => set.count.min(all_but_one),
+        None => all_but_one,
     };
     let Some((count, got)) = fewest(table, seen, most) else {
         return best;
@@ -210,8 +223,10 @@ fn with_start(table: &mut Table, asked: Asked, a: u64, best: Option<Grant>) -> O
 }
 
 // The best set that is not the full wheel.
-fn over_starts(asked: Asked) -> Option<Grant> {
-    let mut table = empty();
+fn over_starts(asked: Asked) -> Option<Grant>
+    requires { asked.wheel.n ≤ 64 }
+{
+    let mut table = Table::empty();
     let mut best = None;
     for a in 0..asked.wheel.n {
         best = with_start(&mut table, asked, a, best);

@@ -6,7 +6,7 @@
 
 ghost use Rattle.std.specs.Prelude.{◌≡◌, ◌≤◌};
 
-use apart::{Asked, Grant, Listed};
+use apart::{Asked, Grant, Listed, No};
 use rules::{Refusal, Wheel, Words};
 use std::io;
 
@@ -34,8 +34,8 @@ impl Tally {
         }
         match answer {
             Ok(_) => self.granted = self.granted.wrapping_add(1),
-            Err(13) => self.too_much = self.too_much.wrapping_add(1),
-            Err(14) => self.too_far = self.too_far.wrapping_add(1),
+            Err(no) if no == No::TooMuch as u64 => self.too_much = self.too_much.wrapping_add(1),
+            Err(no) if no == No::TooFar as u64 => self.too_far = self.too_far.wrapping_add(1),
             Err(_) => {}
         }
     }
@@ -175,7 +175,7 @@ fn plain(w: Wheel) -> apart::Wheel {
 // What the search apart through all sets answers; nothing where the exact one, which is run too at
 // every free set up to N 8 and above that at each eighth, answers otherwise.
 fn searched(listed: &Listed, asked: Asked) -> Option<Answer> {
-    let found = listed.search(asked.free, asked.words, asked.limit);
+    let found = listed.search(asked);
     if (asked.wheel.n <= 8 || asked.free % 8 == 7) && found != exact::select(asked) {
         return None;
     }
