@@ -61,7 +61,7 @@ pub fn best(w: Wheel, free: u64, words: Words, limit: u16) -> Grant
         wheel: w,
         free,
         words,
-        limit: w.n.min(limit as usize),
+        limit: w.n.min(usize::from(limit)),
     };
     match search(task) {
         Some(found) => {

@@ -27,7 +27,7 @@ pub fn select(w: Wheel, free: u64, words: Words, limit: u16) -> Result<Grant, Re
     if measure::words(w, free).0 < words.0 {
         return Err(Refusal::TooMuch);
     }
-    if (limit as usize) < measure::largest_gap(w, free) {
+    if usize::from(limit) < measure::largest_gap(w, free) {
         return Err(Refusal::TooFar);
     }
     Ok(engine::best(w, free, words, limit))

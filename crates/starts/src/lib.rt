@@ -2,7 +2,7 @@
 // answer is 0, and slots from N on are passed over.
 #![tactic(auto)]
 
-ghost use Rattle.std.specs.Prelude.{◌≡◌, ◌+◌, ◌-◌, ◌%◌, ◌≤◌, ◌<◌};
+ghost use Rattle.std.specs.Prelude.{◌≡◌, ◌≤◌, ◌<◌};
 ghost use Rattle.rules.specs.Wheels.{Measured, start};
 ghost use Rattle.rules.specs.Best.{smallest_start};
 
