@@ -80,12 +80,10 @@ fn closing(text: &[u8]) -> Option<Request>
     ensures { Means (close_bytes ++ text.now) result }
 {
     let mut room = [0; 19];
-    let fields = decimals::fields(text, &mut room)?;
-    let one = fields.len() == 1;
-    if !one {
+    let [flow] = decimals::fields(text, &mut room)? else {
         return None;
-    }
-    Some(Request::Close { flow: fields[0] })
+    };
+    Some(Request::Close { flow: *flow })
 }
 
 // A line, without its line feed, as a command.
