@@ -7,17 +7,16 @@
 ghost use Rattle.std.specs.Prelude.{◌≡◌, true, false, is_some, List, ℕ, ◌≤◌};
 ghost use Rattle.rules.specs.Wheels.{Legal};
 ghost use Rattle.rules.specs.Flows.{Own};
-ghost use Rattle.rules.specs.Orders.{Tabled, way_lines, flow_lines, path_lines, state_lines};
+ghost use Rattle.rules.specs.Orders.{way_lines, flow_lines, path_lines, state_lines};
 ghost use Rattle.rules.specs.declared.Call.{Call};
 ghost use Rattle.rules.specs.declared.Verb.TheVariants.{ToOpen, ToClose};
 ghost use Rattle.table.specs.Along.{Walkable};
 ghost use Rattle.decide.specs.Decisions.{Gates, Asks, Settles, Decides};
 
-use rules::{Call, Chip, Demand, Path, Record, Refusal, State, Verb, Yes};
+use rules::{Call, Chip, Demand, Path, Record, Refusal, Verb, Yes};
 
 // What every call on a table asks first: 1, 2, 3 and 4. Where table and list agree, `held` is how many
 // cells the flows hold, and that is handed on.
-#[tactic(auto, using(crate::proofs::Passed::too_many))]
 pub fn enter(table: &[u8], chip: Chip, n: usize, held: Option<usize>) -> Result<usize, Refusal>
     ensures { Gates chip table.now n held result }
 {
@@ -27,10 +26,7 @@ pub fn enter(table: &[u8], chip: Chip, n: usize, held: Option<usize>) -> Result<
     if !table::is_table(table, chip) {
         return Err(Refusal::BadTable);
     }
-    if n < 1 {
-        return Err(Refusal::BadList);
-    }
-    if 64 < n {
+    if n < 1 || 64 < n {
         return Err(Refusal::BadList);
     }
     held.ok_or(Refusal::Disagree)
@@ -40,10 +36,7 @@ pub fn enter(table: &[u8], chip: Chip, n: usize, held: Option<usize>) -> Result<
 fn pass_path(path: Path, chip: Chip) -> Result<(), Refusal>
     ensures { Asks (path_lines chip path.entries path.len) result }
 {
-    if path.len < 1 {
-        return Err(Refusal::PathLength);
-    }
-    if 16 < path.len {
+    if path.len < 1 || 16 < path.len {
         return Err(Refusal::PathLength);
     }
     if !flows::inside(path, chip.channels) {
@@ -69,10 +62,7 @@ fn pass_way(call: Call, chip: Chip) -> Result<(), Refusal>
 fn pass_flow(flow: usize, n: usize) -> Result<(), Refusal>
     ensures { Asks (flow_lines n flow) result }
 {
-    if flow < 1 {
-        return Err(Refusal::NoFlow);
-    }
-    if n < flow {
+    if flow < 1 || n < flow {
         return Err(Refusal::NoFlow);
     }
     Ok(())

@@ -1,5 +1,5 @@
 -- 5, 6 and 7 are tests, each behind those before it.
-use Rattle.std.proofs.Common.{inl, inr, arith}
+use Rattle.std.proofs.Common.{arith}
 use Rattle.std.proofs.Common.{List, ◌≤◌}
 use Rattle.rules.specs.declared.Chip.{Chip}
 use Rattle.rules.specs.declared.Path.{Path}
@@ -9,6 +9,7 @@ use Rattle.rules.specs.Orders.{path_lines}
 use Rattle.laws.specs.Refusals.{before, first, more, none_before}
 use Rattle.decide.specs.Decisions.{Asks}
 use Rattle.decide.specs.Behind.{neither_of}
+use Rattle.decide.proofs.Passed.{outside}
 use Rattle.decide.proofs.pass_path.Goals as goal
 
 abbrev order : Chip → Path → List Line
@@ -23,11 +24,7 @@ module _ (chip : Chip) (path : Path) (some : 1 ≤ path.len) (fits : path.len �
 
 pub returns-then-path-lt1 : goal.returns-then-path-lt1
 unfolding Asks
-returns-then-path-lt1 c = first (order c.args.chip c.args.path) 5 none_before (inl (omega arith))
-
-pub returns-then-path-gt16 : goal.returns-then-path-gt16
-unfolding Asks
-returns-then-path-gt16 c = first (order c.args.chip c.args.path) 5 none_before (inr (omega arith))
+returns-then-path-lt1 c = first (order c.args.chip c.args.path) 5 none_before (outside c.then-path-lt1.either)
 
 pub returns-then-not-inside : goal.returns-then-not-inside
 unfolding Asks
