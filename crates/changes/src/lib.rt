@@ -79,7 +79,8 @@ fn closing(r: Record) -> Change
     }
 }
 
-// What no yes of an opening tells changes as much as the closing of a closed flow: nothing.
+// An opening is never answered `Cells`; that case gets the change that changes nothing, the closing of a
+// closed flow.
 fn no_change() -> Change
     ensures { result ≡ no_change }
 {
@@ -135,7 +136,8 @@ pub fn to_close(flow: usize) -> Call
     }
 }
 
-// A call's answer as that of an opening. No opening tells of cells.
+// A call's answer as that of an opening. No opening tells of cells: no call reaches that case, and `BadWheel`
+// fills it, because the function must answer for every yes.
 pub fn opened_as(a: Result<Yes, Refusal>) -> Result<Grant, Refusal>
     ensures { result ≡ to_opened a }
 {
@@ -145,7 +147,8 @@ pub fn opened_as(a: Result<Yes, Refusal>) -> Result<Grant, Refusal>
     }
 }
 
-// A call's answer as that of a closing. No closing tells of a grant.
+// A call's answer as that of a closing. No closing tells of a grant: no call reaches that case, and `BadWheel`
+// fills it, because the function must answer for every yes.
 pub fn cleared_as(a: Result<Yes, Refusal>) -> Result<usize, Refusal>
     ensures { result ≡ to_cleared a }
 {

@@ -17,6 +17,7 @@ pub fn channel(path: Path, i: usize) -> usize
 }
 
 // How many slots later the flow is at position i.
+// On this chip each channel is one slot later than the one before; a later request gives channels delays.
 #[tactic(auto, unfolding(rules::specs::Paths::shift))]
 fn shift(chip: Chip, path: Path, i: usize) -> usize
     requires { i < 16 }
@@ -34,6 +35,7 @@ pub fn turn(chip: Chip, path: Path, i: usize) -> usize
 }
 
 // How many slots a path takes (rule 4).
+// On this chip each channel takes one slot; a later request gives channels delays.
 #[tactic(auto, unfolding(rules::specs::Paths::travel))]
 pub fn travel(chip: Chip, path: Path) -> usize
     requires { path.len ≤ 16 }
