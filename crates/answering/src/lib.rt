@@ -2,7 +2,7 @@
 // bytes of 16 records, so that the calls are those of the archive.
 #![tactic(auto)]
 
-ghost use Rattle.std.specs.Prelude.{◌≡◌, ◌+◌, ◌≤◌, ◌<◌, length, replicate};
+ghost use Rattle.std.specs.Prelude.{◌≡◌, ◌<◌, replicate};
 ghost use Rattle.answering.specs.Lines.{state, RoomFor, OpenLine, CloseLine, ReportLine, Lined, Fed};
 
 use reading::Request;

@@ -3,7 +3,6 @@
 // a refusal has written nothing.
 #![tactic(auto)]
 
-ghost use Rattle.std.specs.Prelude.{◌≡◌};
 ghost use Rattle.rules.specs.Tells.{Tells};
 ghost use Rattle.rules.specs.Paths.{chip_of};
 ghost use Rattle.rules.specs.Orders.{Agrees, opening, closing};
