@@ -133,12 +133,9 @@ impl Path {
 
 // Whether a channel stands twice.
 fn repeats(used: &[u16]) -> bool {
-    for i in 0..used.len() {
-        if used[..i].contains(&used[i]) {
-            return true;
-        }
-    }
-    false
+    used.iter()
+        .enumerate()
+        .any(|(i, channel)| used[..i].contains(channel))
 }
 
 impl Demand {
@@ -164,7 +161,8 @@ const SLOTS: usize = 20;
 
 const REST: usize = 24;
 
-// A flow's record: state 0 is closed and 1 open, and the rest is what its bytes say, as it is.
+// A flow's record: state 0 is closed and 1 open, and the rest is what its bytes say, as it is. The
+// state is a number and no enum, since the bytes may hold any number, and the model decides for all.
 #[derive(Clone, Copy, PartialEq, Eq, Default)]
 pub struct Record {
     pub state: u16,
@@ -431,21 +429,19 @@ impl<'a> Lent<'a> {
 
     // The cells that are 0 among the first N of every row.
     fn free_cells(self) -> u64 {
-        let mut free: u64 = 0;
-        for row in self.table.chunks_exact(ROW) {
-            let cells = row.iter().take(self.wheel.n as usize);
-            free = free.wrapping_add(cells.filter(|cell| **cell == 0).count() as u64);
-        }
-        free
+        let n = self.wheel.n as usize;
+        self.table
+            .chunks_exact(ROW)
+            .map(|row| row.iter().take(n).filter(|cell| **cell == 0).count() as u64)
+            .fold(0, u64::wrapping_add)
     }
 
     // The cells that the flows hold.
     fn held_cells(self) -> u64 {
-        let mut held: u64 = 0;
-        for bytes in self.list.chunks_exact(ROW) {
-            held = held.wrapping_add(Record::read(bytes).cells());
-        }
-        held
+        self.list
+            .chunks_exact(ROW)
+            .map(|bytes| Record::read(bytes).cells())
+            .fold(0, u64::wrapping_add)
     }
 
     // Counts free and held cells.

@@ -64,24 +64,22 @@ impl Lists {
     fn open(&mut self, flow: usize, demand: Demand) -> Result<Grant, Refusal>
         ensures { OpensLent WHEEL self.old.table self.old.list BOTH 2 flow demand self.new.table self.new.list result }
     {
-        let mut table = self.table;
-        let mut list = self.list;
-        let answer = jellyspire::open(&mut table, &mut list, WHEEL, flow, BOTH, 2, demand);
-        self.table = table;
-        self.list = list;
-        answer
+        jellyspire::open(
+            &mut self.table,
+            &mut self.list,
+            WHEEL,
+            flow,
+            BOTH,
+            2,
+            demand,
+        )
     }
 
     // Closes a flow; how many cells that cleared.
     fn close(&mut self, flow: usize) -> Result<usize, Refusal>
         ensures { ClosesLent WHEEL self.old.table self.old.list flow self.new.table self.new.list result }
     {
-        let mut table = self.table;
-        let mut list = self.list;
-        let answer = jellyspire::close(&mut table, &mut list, WHEEL, flow);
-        self.table = table;
-        self.list = list;
-        answer
+        jellyspire::close(&mut self.table, &mut self.list, WHEEL, flow)
     }
 
     // Table and list as bytes.

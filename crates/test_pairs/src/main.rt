@@ -204,10 +204,9 @@ fn with_later(tally: &mut Tally, call: Call, scene: &Scene, no: No, later: No) {
 // Every refusal of the order of a call, a line each.
 fn every_number(rt: HostRuntime, call: Call, name: &str, scene: &Scene) -> io::Result<()> {
     let order = order(call);
-    for i in 0..order.len() {
-        let no = order[i];
-        let tally = every_way(call, scene, no, &order[i + 1..]);
-        println!(rt; "{name} {}: {tally}", no as u64)?;
+    for (i, no) in order.iter().enumerate() {
+        let tally = every_way(call, scene, *no, &order[i + 1..]);
+        println!(rt; "{name} {}: {tally}", *no as u64)?;
     }
     Ok(())
 }

@@ -87,9 +87,7 @@ impl Scene {
         laid.flow = flow;
         laid.path = Path::over(path);
         laid.demand = Demand { words, deadline };
-        let mut rooms = self.rooms;
-        model::write(&mut rooms.table, &mut rooms.list, &laid, slots);
-        self.rooms = rooms;
+        model::write(&mut self.rooms.table, &mut self.rooms.list, &laid, slots);
     }
 
     // Four flows: 1, 2, 5 and 7 of eight on sixteen channels, with the default wheel. Flow 1 has slots
@@ -128,10 +126,12 @@ impl Scene {
 
     // The library's call, which changes table and list.
     pub fn make(&mut self, call: Call) -> Result<Reply, Malformed> {
-        let mut rooms = self.rooms;
-        let reply = through::answer(call, &mut rooms.table, &mut rooms.list, &self.asked);
-        self.rooms = rooms;
-        reply
+        through::answer(
+            call,
+            &mut self.rooms.table,
+            &mut self.rooms.list,
+            &self.asked,
+        )
     }
 }
 
