@@ -1,78 +1,55 @@
-// Whether table and list agree, in one pass over each: a step for each record, which sees that the
-// record obeys its own rules and that each cell that it claims holds its number, and then one look at
-// the whole table. Since claims that all hold their own numbers are distinct, the table has no stray
-// cell exactly if as many of its cells are used as the records claim.
+// Whether table and list agree, in one pass over each: every record is seen to obey its own rules, and each
+// cell that it claims to hold its number, and then there is one look at the whole table. Since claims that
+// all hold their own numbers are distinct, the table has no stray cell exactly if as many of its cells are
+// used as the records claim.
 #![tactic(auto)]
 
-ghost use Rattle.std.specs.Prelude.{◌≡◌, true, ◌*◌, ◌≤◌, ◌<◌};
+ghost use Rattle.std.specs.Prelude.{◌≡◌, ◌<◌, is_some, IfSome, MatchOption};
 ghost use Rattle.rules.specs.Tells.{Tells};
 ghost use Rattle.rules.specs.Wheels.{Legal};
-ghost use Rattle.rules.specs.Orders.{Tabled};
-ghost use Rattle.ledger.specs.Totals.{used_cells};
-ghost use Rattle.rules.specs.Orders.{Ready};
-ghost use Rattle.agree.specs.Checks.{Steps};
+ghost use Rattle.rules.specs.Flows.{held_cells};
+ghost use Rattle.rules.specs.Orders.{Tabled, Ready, Agrees};
+ghost use Rattle.agree.specs.Checks.{Ordered, Claimed};
 
+use lent::FlowList;
 use rules::{Chip, Record};
 
-// What the check has found so far: whether all is well, and how many cells the records claim.
-#[derive(Clone, Copy)]
-pub struct Checked {
-    pub ok: bool,
-    pub held: usize,
+// Whether wheel, table length and list length are good, for a list of n records.
+fn ready(table: &[u8], chip: Chip, n: usize) -> bool
+    ensures { Tells result (Ready chip table.now n) }
+{
+    measure::legal(chip.wheel) && table::is_table(table, chip) && 1 <= n && n <= 64
 }
 
-// The check before the first of n records: are wheel, table length and list length good?
-pub fn begin(table: &[u8], chip: Chip, n: usize) -> Checked
-    ensures { Tells result.ok (Ready chip table.now n) × (result.held ≡ 0) }
+// How many cells the record r, number f counted from 0, claims, if it is in order.
+fn claimed(table: &[u8], chip: Chip, r: Record, f: usize) -> Option<usize>
+    requires ready { Legal chip.wheel × Tabled chip.channels table.now }
+    requires f_bound { f < 64 }
+    ensures { MatchOption result (¬ Ordered chip table.now f r) (λ k. Claimed chip table.now f r k) }
 {
-    let w = chip.wheel;
-    if !measure::legal(w) {
-        return Checked { ok: false, held: 0 };
-    }
-    if !table::is_table(table, chip) {
-        return Checked { ok: false, held: 0 };
-    }
-    if n < 1 {
-        return Checked { ok: false, held: 0 };
-    }
-    if 64 < n {
-        return Checked { ok: false, held: 0 };
-    }
-    Checked { ok: true, held: 0 }
-}
-
-// The check with the record r, number f counted from 0, taken into account.
-pub fn step(table: &[u8], chip: Chip, known: Checked, r: Record, f: usize) -> Checked
-    requires legal { known.ok ≡ true → Legal chip.wheel × Tabled chip.channels table.now }
-    requires f_bound { (f < 64) × (known.held ≤ 1024 * f) }
-    ensures { Steps chip table.now f r known result }
-{
-    if !known.ok {
-        return known;
-    }
     if !flows::own(chip, r) {
-        return Checked { ok: false, held: 0 };
+        return None;
     }
-    let path = r.path;
-    let len = r.len;
-    let v = (f + 1) as u8;
-    if !table::holds(table, chip, path, len, r.slots, v) {
-        return Checked { ok: false, held: 0 };
+    let number = (f + 1) as u8;
+    if !table::holds(table, chip, r.path, r.slots, number) {
+        return None;
     }
-    let w = chip.wheel;
-    let cells = flows::cells_of(w, r);
-    Checked {
-        ok: true,
-        held: known.held + cells,
-    }
+    Some(flows::cells_of(chip.wheel, r))
 }
 
-// Whether all is well and the table has no cell besides those that the records claim.
-pub fn settle(table: &[u8], c: Checked) -> bool
-    ensures { Tells result ((c.ok ≡ true) × (used_cells table.now ≡ c.held)) }
+// How many cells the flows hold, if wheel, table and list are good and table and list agree.
+pub fn held<T: FlowList>(table: &[u8], list: &[T], chip: Chip) -> Option<usize>
+    ensures agree { Tells (is_some result) (Agrees chip table.now (T.count list.now) (T.records list.now)) }
+    ensures held { IfSome result (λ k. k ≡ held_cells chip.wheel (T.count list.now) (T.records list.now)) }
 {
-    if !c.ok {
-        return false;
+    let n = T::count(list);
+    if !ready(table, chip, n) {
+        return None;
     }
-    table::count_used(table) == c.held
+    let mut held = 0;
+    for f in 0..n {
+        held += claimed(table, chip, T::record(list, f), f)?;
+    }
+    let settled = table::count_used(table) == held;
+    if settled { Some(held) } else { None }
 }

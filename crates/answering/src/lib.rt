@@ -2,104 +2,96 @@
 // bytes of 16 records, so that the calls are those of the archive.
 #![tactic(auto)]
 
-ghost use Rattle.std.specs.Prelude.{◌≡◌, ◌+◌, ◌≤◌, ◌<◌, length};
-ghost use Rattle.grammar.specs.Listing.{wheel};
-ghost use Rattle.answering.specs.Lines.{state, OpenLine, CloseLine, ReportLine, Lined, Fed};
+ghost use Rattle.std.specs.Prelude.{◌≡◌, ◌<◌, replicate};
+ghost use Rattle.answering.specs.Lines.{state, RoomFor, OpenLine, CloseLine, ReportLine, Lined, Fed};
 
-use reading::{Parsed, Verb};
-use rules::{Demand, Wheel, Words};
+use reading::Request;
+use rules::{Demand, Path, Wheel, Words};
+use texts::Page;
 
 // The default wheel.
-fn wheel() -> Wheel
-    ensures { result ≡ wheel }
-{
-    Wheel {
-        n: 8,
-        s: Words(3),
-        h: Words(1),
-        p: 3,
+const WHEEL: Wheel = Wheel {
+    n: 8,
+    s: Words(3),
+    h: Words(1),
+    p: 3,
+};
+
+// What the lines work on: a table of N bytes, and a list of 16 flows.
+#[derive(Drop)]
+pub struct Board<const N: usize> {
+    pub table: [u8; N],
+    pub list: [u8; 1024],
+}
+
+impl<const N: usize> Board<N> {
+    // All cells free, all flows closed.
+    pub fn empty() -> Board<N>
+        ensures table { result.table ≡ replicate N 0 }
+        ensures list { result.list ≡ replicate 1024 0 }
+    {
+        Board {
+            table: [0; N],
+            list: [0; 1024],
+        }
     }
-}
 
-// A flow number as wide as the calls want it.
-fn wide(flow: u16) -> usize
-    ensures { result ≡ flow }
-{
-    flow as usize
-}
-
-// A line that asks for an opening.
-fn open_line(table: &mut [u8], list: &mut [u8], out: &mut [u8], at: usize, p: Parsed) -> usize
-    requires { (length list.old ≡ 1024) × (at + 83 ≤ length out.old) }
-    ensures { OpenLine p (state table.old list.old)
-        (state table.new list.new) out.old at out.new result }
-{
-    let flow = wide(p.flow);
-    let path = p.path;
-    let demand = Demand {
-        words: Words(p.words),
-        deadline: p.deadline,
-    };
-    let answer = bytes_calls::open(table, list, wheel(), flow, path, p.len, demand);
-    printing::put_open(out, at, flow, answer)
-}
-
-// A line that asks for a closing.
-fn close_line(table: &mut [u8], list: &mut [u8], out: &mut [u8], at: usize, p: Parsed) -> usize
-    requires { (length list.old ≡ 1024) × (at + 83 ≤ length out.old) }
-    ensures { CloseLine p (state table.old list.old)
-        (state table.new list.new) out.old at out.new result }
-{
-    let flow = wide(p.flow);
-    let answer = bytes_calls::close(table, list, wheel(), flow);
-    printing::put_close(out, at, flow, answer)
-}
-
-// A line that asks for the report.
-fn report_line(table: &[u8], list: &[u8], out: &mut [u8], at: usize) -> usize
-    requires { (length list.now ≡ 1024) × (at + 83 ≤ length out.old) }
-    ensures { ReportLine (state table.now list.now) out.old at out.new result }
-{
-    let answer = bytes_calls::report(table, list, wheel());
-    printing::put_report(out, at, answer)
-}
-
-// Reads line k, carries it out and puts its text.
-fn answer(
-    line: &[u8],
-    table: &mut [u8],
-    list: &mut [u8],
-    out: &mut [u8],
-    at: usize,
-    k: usize,
-) -> usize
-    requires { (length list.old ≡ 1024) × (at + 83 ≤ length out.old) × (k < 10000) }
-    ensures { Lined (state table.old list.old) k line.now
-        (state table.new list.new) out.old at out.new result }
-{
-    let p = reading::command(line);
-    let verb = p.verb;
-    match verb {
-        Verb::Open => open_line(table, list, out, at, p),
-        Verb::Close => close_line(table, list, out, at, p),
-        Verb::Report => report_line(table, list, out, at),
-        Verb::Neither => printing::put_bad(out, at, k),
+    // A line that asks for an opening.
+    fn open(&mut self, flow: usize, demand: Demand, path: Path, page: &mut Page)
+        requires { RoomFor 83 page.old }
+        ensures { OpenLine flow demand path (state self.old) (state self.new) page.old page.new }
+    {
+        let answer = bytes_calls::open(
+            &mut self.table,
+            &mut self.list,
+            WHEEL,
+            flow,
+            path.entries,
+            path.len,
+            demand,
+        );
+        printing::put_open(page, flow, answer);
     }
-}
 
-// Line k with its text and a line feed.
-pub fn line(
-    text: &[u8],
-    table: &mut [u8],
-    list: &mut [u8],
-    out: &mut [u8],
-    at: usize,
-    k: usize,
-) -> usize
-    requires { (length list.old ≡ 1024) × (at + 84 ≤ length out.old) × (k < 10000) }
-    ensures { Fed (state table.old list.old) k text.now
-        (state table.new list.new) out.old at out.new result }
-{
-    let place = answer(text, table, list, out, at, k);
-    texts::put(out, place, b"\n")
+    // A line that asks for a closing.
+    fn close(&mut self, flow: usize, page: &mut Page)
+        requires { RoomFor 83 page.old }
+        ensures { CloseLine flow (state self.old) (state self.new) page.old page.new }
+    {
+        let answer = bytes_calls::close(&mut self.table, &mut self.list, WHEEL, flow);
+        printing::put_close(page, flow, answer);
+    }
+
+    // A line that asks for the report.
+    fn report(&self, page: &mut Page)
+        requires { RoomFor 83 page.old }
+        ensures { ReportLine (state self.now) page.old page.new }
+    {
+        let answer = bytes_calls::report(&self.table, &self.list, WHEEL);
+        printing::put_report(page, answer);
+    }
+
+    // Reads line k, carries it out and puts its text.
+    fn answer(&mut self, line: &[u8], k: usize, page: &mut Page)
+        requires { RoomFor 83 page.old × (k < 10000) }
+        ensures { Lined (state self.old) k line.now (state self.new) page.old page.new }
+    {
+        match reading::command(line) {
+            Some(Request::Open { flow, demand, path }) => {
+                self.open(usize::from(flow), demand, path, page)
+            }
+            Some(Request::Close { flow }) => self.close(usize::from(flow), page),
+            Some(Request::Report) => self.report(page),
+            None => printing::put_bad(page, k),
+        }
+    }
+
+    // Line k with its text and a line feed.
+    pub fn line(&mut self, text: &[u8], k: usize, page: &mut Page)
+        requires { RoomFor 84 page.old × (k < 10000) }
+        ensures { Fed (state self.old) k text.now (state self.new) page.old page.new }
+    {
+        self.answer(text, k, page);
+        page.put(b"\n");
+    }
 }

@@ -47,7 +47,7 @@ unfoldable pub slots_from : (ℕ → ℕ) → ℕ
 slots_from g = g 20 + 65536 * (g 21 + 65536 * (g 22 + 65536 * g 23))
 
 abbrev pub record_from : (ℕ → ℕ) → Record
-record_from g = record { state = state_from g; path = path_from g; len = g 3; slots = slots_from g }
+record_from g = record { state = state_from g; path = record { entries = path_from g; len = g 3 }; slots = slots_from g }
 
 -- the record that starts at byte `at`
 unfoldable pub decoded : List ℕ → ℕ → Record
@@ -77,8 +77,8 @@ slots_number x j = x / 2 ^ (16 * j) % 65536
 unfoldable pub number_of : Record → ℕ → ℕ
 number_of r j =
     cond (ltb j 3) (state_number r.state j)
-    (cond (ltb j 4) r.len
-    (cond (ltb j 20) (get_or r.path (j - 4) 0)
+    (cond (ltb j 4) r.path.len
+    (cond (ltb j 20) (get_or r.path.entries (j - 4) 0)
     (cond (ltb j 24) (slots_number r.slots (j - 20)) 0)))
 
 -- `new` is `old` with the record r in the 64 bytes from `at` on, and nothing else changed

@@ -1,12 +1,8 @@
 -- A record that was written reads back as itself, and the other records stay: the list afterwards is the list with the
 -- record in its place. Bytes that are no record agree with no table.
-use Rattle.std.specs.Prelude.{◌≡◌, Bool, true, false, ◌&&◌, cond, List, ◌⊎◌, ℕ, zero, suc, ◌+◌, ◌-◌, ◌*◌, ◌/◌, ◌%◌, ◌≤◌, ◌<◌, length, set}
-use Rattle.std.proofs.Math.Path.{refl, sym, ap}
-use Rattle.std.proofs.Common.{subst, ◌∙◌, inl, inr, div-one, add-suc, suc-add, add-zero, zero-add, length-set, ext_get_or, get_or-set_same, get_or-set_other}
-use native.Mathlib.Omega.{arith}
+use Rattle.std.specs.Prelude.{◌≡◌, refl, Bool, true, false, ◌&&◌, cond, List, ◌⊎◌, ℕ, zero, suc, ◌+◌, ◌-◌, ◌*◌, ◌/◌, ◌%◌, ◌≤◌, ◌<◌, get_or, length, set, take, drop, eqb}
+use Rattle.std.proofs.Common.{sym, ap, subst, ◌∙◌, inl, inr, arith, div-one, add_assoc, add-suc, suc-add, add-zero, zero-add, length-set, ext_get_or, get_or-set_same, get_or-set_other, get_or-take, get_or-drop}
 use Rattle.std.proofs.Math.Nat.{div-div-eq-div-mul}
-use Rattle.std.proofs.Math.ListN.{get_or}
-use Rattle.std.proofs.Math.Dec.{eqb}
 use Rattle.rules.specs.declared.State.{State}
 use Rattle.rules.specs.declared.State.TheVariants.{Closed, Open}
 use Rattle.rules.specs.declared.Record.{Record}
@@ -50,6 +46,21 @@ module _ (g h : ℕ → ℕ) (same : (j : ℕ) → j < 32 → g j ≡ h j) where
   record_same : record_from g ≡ record_from h
   record_same = made h (state_from g) (path_from g) (g 3) (slots_from g) state_same path_same (same 3 (omega arith)) slots_same
 
+-- ---- a record that is read from its own 64 bytes
+
+module _ (b part : List ℕ) (at : ℕ) (cut : part ≡ take (at + 64 - at) (drop at b)) where
+  byte_part : (i : ℕ) → i < 64 → get_or part i 0 ≡ get_or b (at + i) 0
+  byte_part i h = rw cut (get_or-take (at + 64 - at) (drop at b) i 0 (omega arith) ∙ get_or-drop at b i 0)
+
+  pub decoded_part : record_from (numbers_at part 0) ≡ decoded b at
+  unfolding decoded number_at
+  decoded_part =
+      record_same (numbers_at part 0) (numbers_at b at)
+      λ j h.
+      let low : get_or part (0 + 2 * j) 0 ≡ get_or b (at + 2 * j) 0 = rw zero-add (byte_part (2 * j) (omega arith)) in
+      let high : get_or part (0 + 2 * j + 1) 0 ≡ get_or b (at + 2 * j + 1) 0 = rw (zero-add, add_assoc) (byte_part (2 * j + 1) (omega arith)) in
+      rw (low, high)
+
 -- ---- a record's own numbers
 
 four : (x : ℕ) → x < 18446744073709551616
@@ -65,42 +76,42 @@ four x h =
     rw (last, upper, middle, all)
 
 module _ (p : List ℕ) (m x : ℕ) where
-  self_state : (s : State) → state_from (number_of (record { state = s; path = p; len = m; slots = x })) ≡ s
+  self_state : (s : State) → state_from (number_of (record { state = s; path = record { entries = p; len = m }; slots = x })) ≡ s
   unfolding state_from formed known_state is_zero all number_of state_number
   self_state Closed = refl
   self_state (Open d) = refl
 
-  self_path : (s : State) → length p ≡ 16 → path_from (number_of (record { state = s; path = p; len = m; slots = x })) ≡ p
+  self_path : (s : State) → length p ≡ 16 → path_from (number_of (record { state = s; path = record { entries = p; len = m }; slots = x })) ≡ p
   unfolding path_from
   self_path s long =
-      let r : Record = record { state = s; path = p; len = m; slots = x } in
+      let r : Record = record { state = s; path = record { entries = p; len = m }; slots = x } in
       sym
       (list_is (λ i. number_of r (4 + i)) 16 p long λ i h.
       let e : 4 + i - 4 ≡ i = omega arith in
       sym (ap (λ k. get_or p k 0) e) ∙ number_path r (4 + i) (omega arith) (omega arith))
 
-  self_slots : (s : State) → x < 18446744073709551616 → slots_from (number_of (record { state = s; path = p; len = m; slots = x })) ≡ x
+  self_slots : (s : State) → x < 18446744073709551616 → slots_from (number_of (record { state = s; path = record { entries = p; len = m }; slots = x })) ≡ x
   unfolding slots_from number_of slots_number
   self_slots s h =
       ap (λ v. v % 65536 + 65536 * (x / 65536 % 65536 + 65536 * (x / 4294967296 % 65536 + 65536 * (x / 281474976710656 % 65536)))) (div-one x) ∙ four x h
 
-  self_len : (s : State) → number_of (record { state = s; path = p; len = m; slots = x }) 3 ≡ m
+  self_len : (s : State) → number_of (record { state = s; path = record { entries = p; len = m }; slots = x }) 3 ≡ m
   unfolding number_of
   self_len s = refl
 
-record_self : (r : Record) → length r.path ≡ 16 → r.slots < 18446744073709551616 → record_from (number_of r) ≡ r
+record_self : (r : Record) → length r.path.entries ≡ 16 → r.slots < 18446744073709551616 → record_from (number_of r) ≡ r
 record_self r long small =
     sym
-    (made (number_of r) r.state r.path r.len r.slots
-    (sym (self_state r.path r.len r.slots r.state))
-    (sym (self_path r.path r.len r.slots r.state long))
-    (sym (self_len r.path r.len r.slots r.state))
-    (sym (self_slots r.path r.len r.slots r.state small)))
+    (made (number_of r) r.state r.path.entries r.path.len r.slots
+    (sym (self_state r.path.entries r.path.len r.slots r.state))
+    (sym (self_path r.path.entries r.path.len r.slots r.state long))
+    (sym (self_len r.path.entries r.path.len r.slots r.state))
+    (sym (self_slots r.path.entries r.path.len r.slots r.state small)))
 
 -- ---- written, and read
 
 module _ (b : List ℕ) (at : ℕ) (r : Record) (b' : List ℕ) (written : Written b at r b') where
-  pub read_back : length r.path ≡ 16 → r.slots < 18446744073709551616 → decoded b' at ≡ r
+  pub read_back : length r.path.entries ≡ 16 → r.slots < 18446744073709551616 → decoded b' at ≡ r
   unfolding decoded number_at
   read_back long small =
       record_same (numbers_at b' at) (number_of r) (λ j h. omega (arith, written.low j h, written.high j h)) ∙ record_self r long small
@@ -146,7 +157,7 @@ count_same b b' e = rw e
 
 -- the list afterwards is the list with r in its place
 pub list_written : (b : List ℕ) (i : ℕ) (r : Record) (b' : List ℕ) → Written b (64 * i) r b' → i < count_of b
-    → length r.path ≡ 16 → r.slots < 18446744073709551616 → list_in b' ≡ set (list_in b) i r
+    → length r.path.entries ≡ 16 → r.slots < 18446744073709551616 → list_in b' ≡ set (list_in b) i r
 unfolding list_in
 list_written b i r b' written h long small =
     ap (λ n. records b' 0 n) (count_same b b' written.long) ∙

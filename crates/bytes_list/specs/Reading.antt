@@ -1,12 +1,12 @@
--- The tests of a record's numbers, by how they come out, and the state and path that are read from them.
-use Rattle.std.specs.Prelude.{◌≡◌, Bool, true, false, List, ℕ, zero, suc, ◌+◌, ◌<◌, get_or, length, eqb}
-use Rattle.std.proofs.Common.{sym, ap, ◌∙◌, arith, add-suc, suc-add, add-zero, zero-add, ext_get_or}
-use borrow.Author.Tests.{eq-eqb, ne_eqb}
+-- The tests of a record's numbers, by how they come out, and a record that is read from its numbers, field by field.
+use Rattle.std.specs.Prelude.{◌≡◌, Bool, true, false, eqb, List, ℕ, zero, suc, ◌+◌, ◌<◌, get_or, length, take, drop}
+use Rattle.std.proofs.Common.{sym, ap, ◌∙◌, arith, add-suc, suc-add, add-zero, zero-add, ext_get_or, get_or-take, get_or-drop, eq-eqb, ne_eqb, lit<}
+use Rattle.std.specs.Int.{from_le_bytes, w64}
 use Rattle.rules.specs.declared.State.{State}
 use Rattle.rules.specs.declared.State.TheVariants.{Closed, Open}
 use Rattle.rules.specs.Sets.{all, list_of}
 use Rattle.laws.specs.Counting.{list_length}
-use Rattle.bytes_list.specs.Layout.{known_state, is_zero, formed, asks, state_from, path_from, slots_from, record_from}
+use Rattle.bytes_list.specs.Layout.{number_at, numbers_at, known_state, is_zero, formed, asks, state_from, path_from, slots_from, record_from}
 
 module _ (g : ℕ → ℕ) where
   module _ (s : ℕ) (s-is : s ≡ g 0) where
@@ -43,9 +43,9 @@ module _ (g : ℕ → ℕ) where
     unfolding state_from
     state_open t s e n W D p q = rw (← a-is, t, ← e, ne_eqb s 0 n, ← p, ← q)
 
-  pub made : (s : State) (p : List ℕ) (m x : ℕ) → s ≡ state_from g → p ≡ path_from g → m ≡ g 3 → x ≡ slots_from g
-      → record { state = s; path = p; len = m; slots = x } ≡ record_from g
-  made s p m x a b c d = rw (a, b, c, d)
+pub made : (g : ℕ → ℕ) (s : State) (p : List ℕ) (m x : ℕ) → s ≡ state_from g → p ≡ path_from g → m ≡ g 3 → x ≡ slots_from g
+    → record { state = s; path = record { entries = p; len = m }; slots = x } ≡ record_from g
+made g s p m x a b c d = rw (a, b, c, d)
 
 -- ---- lists that are listed
 
@@ -64,3 +64,12 @@ list_is f m p long same =
 pub path_is : (g : ℕ → ℕ) (p : List ℕ) → length p ≡ 16 → ((i : ℕ) → i < 16 → get_or p i 0 ≡ g (4 + i)) → p ≡ path_from g
 unfolding path_from
 path_is g p long same = list_is (λ i. g (4 + i)) 16 p long same
+
+-- eight bytes are four numbers
+pub slots_bytes : (b part : List ℕ) → part ≡ take 8 (take 24 (drop 40 b)) → from_le_bytes w64 part ≡ slots_from (numbers_at b 0)
+unfolding slots_from number_at
+slots_bytes b part cut = omega (arith, byte 0 (lit< tt), byte 1 (lit< tt), byte 2 (lit< tt), byte 3 (lit< tt), byte 4 (lit< tt), byte 5 (lit< tt), byte 6 (lit< tt), byte 7 (lit< tt))
+  where
+    byte : (i : ℕ) → i < 8 → get_or part i 0 ≡ get_or b (40 + i) 0
+    byte i h =
+        rw cut (get_or-take 8 (take 24 (drop 40 b)) i 0 h ∙ get_or-take 24 (drop 40 b) i 0 (omega arith) ∙ get_or-drop 40 b i 0)

@@ -1,7 +1,6 @@
 -- A record's numbers, one after the other, and what the bytes are while they are written.
 use Rattle.std.specs.Prelude.{◌≡◌, refl, List, ◌⊎◌, ℕ, suc, ◌+◌, ◌-◌, ◌*◌, ◌/◌, ◌%◌, ◌≤◌, ◌<◌, get_or, length, set}
-use Rattle.std.proofs.Common.{ap, ◌∙◌, inl, inr, arith, eq-or-lt_of_le, length-set, get_or-set_same, get_or-set_other}
-use borrow.Author.Tests.{lt-ltb, le-ltb, eq-eqb, ne_eqb}
+use Rattle.std.proofs.Common.{ap, ◌∙◌, inl, inr, arith, eq-or-lt_of_le, length-set, get_or-set_same, get_or-set_other, lt-ltb, le-ltb, eq-eqb, ne_eqb}
 use Rattle.rules.specs.declared.Demand.{Demand}
 use Rattle.rules.specs.declared.State.{State}
 use Rattle.rules.specs.declared.State.TheVariants.{Closed, Open}
@@ -34,11 +33,11 @@ module _ (r : Record) (j : ℕ) where
   unfolding number_of
   number_state h = rw (lt-ltb j 3 h)
 
-  pub number_len : 3 ≤ j → j < 4 → r.len ≡ number_of r j
+  pub number_len : 3 ≤ j → j < 4 → r.path.len ≡ number_of r j
   unfolding number_of
   number_len l h = rw (le-ltb j 3 l, lt-ltb j 4 h)
 
-  pub number_path : 4 ≤ j → j < 20 → get_or r.path (j - 4) 0 ≡ number_of r j
+  pub number_path : 4 ≤ j → j < 20 → get_or r.path.entries (j - 4) 0 ≡ number_of r j
   unfolding number_of
   number_path l h = rw (le-ltb j 3 (omega arith), le-ltb j 4 l, lt-ltb j 20 h)
 

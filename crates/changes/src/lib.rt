@@ -2,8 +2,7 @@
 // yes puts in place, and opening and closing as calls. Nothing is read or written here.
 #![tactic(auto)]
 
-ghost use Rattle.std.specs.Prelude.{◌≡◌, []};
-ghost use Rattle.rules.specs.Paths.{trimmed};
+ghost use Rattle.std.specs.Prelude.{◌≡◌};
 ghost use Rattle.rules.specs.Orders.{opening, closing};
 ghost use Rattle.rules.specs.Promises.{open_record, closed_record, change};
 ghost use Rattle.rules.specs.declared.Record.{Record};
@@ -11,56 +10,57 @@ ghost use Rattle.rules.specs.declared.Call.{Call};
 ghost use Rattle.rules.specs.declared.Yes.{Yes};
 ghost use Rattle.rules.specs.declared.Verb.TheVariants.{ToOpen, ToClose};
 ghost use Rattle.ledger.specs.Calls.{to_opened, to_cleared};
-ghost use Rattle.changes.specs.Changes.{no_change, change_of};
+ghost use Rattle.changes.specs.Changes.{no_path, trimmed_path, no_change};
 
-use rules::{Answer, Call, Change, Cleared, Demand, Opened, Record, Refusal, State, Verb, Yes};
+use rules::{Call, Change, Demand, Grant, Path, Record, Refusal, State, Verb, Yes};
 
 // ---- records
 
-// The path with zeros in its unused entries.
-fn trim(path: [u16; 16], len: usize) -> [u16; 16]
-    ensures { result ≡ trimmed path len }
+// The path of a closed flow.
+#[tactic(auto, unfolding(rules::specs::Paths::trimmed, rules::specs::Sets::list_of))]
+fn no_path() -> Path
+    ensures { result ≡ no_path }
 {
-    let mut p = path;
-    let mut i = len;
-    while i < 16 {
-        p[i] = 0;
-        i += 1;
+    Path {
+        entries: [0; 16],
+        len: 0,
     }
-    p
 }
 
-// The path of a closed record.
-fn no_path() -> [u16; 16]
-    ensures { result ≡ trimmed [] 0 }
+// The path with zeros in its unused entries.
+fn trim(path: Path) -> Path
+    ensures { result ≡ trimmed_path path }
 {
-    let zeros: [u16; 16] = [0; 16];
-    trim(zeros, 0)
+    let mut entries = path.entries;
+    for i in path.len..16 {
+        entries[i] = 0;
+    }
+    Path {
+        entries,
+        len: path.len,
+    }
 }
 
 // The record of a flow that is closed.
+#[tactic(auto, unfolding(rules::specs::Promises::closed_record))]
 pub fn closed_record() -> Record
     ensures { result ≡ closed_record }
 {
-    let path = no_path();
     Record {
         state: State::Closed,
-        path,
-        len: 0,
+        path: no_path(),
         slots: 0,
     }
 }
 
 // The record of a flow that was opened.
-fn open_record(path: [u16; 16], len: usize, slots: u64, demand: Demand) -> Record
-    ensures { result ≡ open_record path len slots demand }
+#[tactic(auto, unfolding(rules::specs::Promises::open_record))]
+fn open_record(path: Path, slots: u64, demand: Demand) -> Record
+    ensures { result ≡ open_record path.entries path.len slots demand }
 {
-    let p = trim(path, len);
-    let state = State::Open(demand);
     Record {
-        state,
-        path: p,
-        len,
+        state: State::Open(demand),
+        path: trim(path),
         slots,
     }
 }
@@ -71,18 +71,16 @@ fn open_record(path: [u16; 16], len: usize, slots: u64, demand: Demand) -> Recor
 fn closing(r: Record) -> Change
     ensures { (call : Call) (y : Yes) → result ≡ change r call ToClose y }
 {
-    let path = r.path;
-    let after = closed_record();
     Change {
-        path,
-        len: r.len,
+        path: r.path,
         slots: r.slots,
         value: 0,
-        new: after,
+        new: closed_record(),
     }
 }
 
-// What a refusal would change, if it changed anything: as much as the closing of a closed flow.
+// An opening is never answered `Cells`; that case gets the change that changes nothing, the closing of a
+// closed flow.
 fn no_change() -> Change
     ensures { result ≡ no_change }
 {
@@ -94,54 +92,36 @@ fn opening(call: Call, demand: Demand, y: Yes) -> Change
     ensures { (r : Record) → result ≡ change r call (ToOpen demand) y }
 {
     match y {
-        Yes::Granted(g) => {
-            let path = call.path;
-            let new = open_record(path, call.len, g.slots, demand);
-            Change {
-                path,
-                len: call.len,
-                slots: g.slots,
-                value: call.flow,
-                new,
-            }
-        }
+        Yes::Granted(g) => Change {
+            path: call.path,
+            slots: g.slots,
+            value: call.flow,
+            new: open_record(call.path, g.slots, demand),
+        },
         Yes::Cells(_) => no_change(),
     }
 }
 
 // What a yes changes, by the verb.
-fn change_by(r: Record, call: Call, y: Yes) -> Change
+pub fn change(r: Record, call: Call, y: Yes) -> Change
     ensures { result ≡ change r call call.verb y }
 {
-    let v = call.verb;
-    match v {
+    match call.verb {
         Verb::ToOpen(d) => opening(call, d, y),
         Verb::ToClose => closing(r),
-    }
-}
-
-// What an answer changes.
-pub fn change_of(r: Record, call: Call, a: Answer) -> Change
-    ensures { result ≡ change_of r call a }
-{
-    match a {
-        Answer::Done(y) => change_by(r, call, y),
-        Answer::Refused(_) => no_change(),
     }
 }
 
 // ---- opening and closing, as calls
 
 // A call to open a flow.
-pub fn to_open(flow: usize, path: [u16; 16], len: usize, demand: Demand) -> Call
-    ensures { result ≡ opening path len flow demand }
+pub fn to_open(flow: usize, path: Path, demand: Demand) -> Call
+    ensures { result ≡ opening path.entries path.len flow demand }
 {
-    let verb = Verb::ToOpen(demand);
     Call {
         flow,
-        verb,
+        verb: Verb::ToOpen(demand),
         path,
-        len,
     }
 }
 
@@ -149,38 +129,31 @@ pub fn to_open(flow: usize, path: [u16; 16], len: usize, demand: Demand) -> Call
 pub fn to_close(flow: usize) -> Call
     ensures { result ≡ closing flow }
 {
-    let verb = Verb::ToClose;
-    let path = no_path();
     Call {
         flow,
-        verb,
-        path,
-        len: 0,
+        verb: Verb::ToClose,
+        path: no_path(),
     }
 }
 
-// A call's answer as that of an opening.
-pub fn opened_as(a: Answer) -> Opened
+// A call's answer as that of an opening. No opening tells of cells: no call reaches that case, and `BadWheel`
+// fills it, because the function must answer for every yes.
+pub fn opened_as(a: Result<Yes, Refusal>) -> Result<Grant, Refusal>
     ensures { result ≡ to_opened a }
 {
-    match a {
-        Answer::Done(y) => match y {
-            Yes::Granted(g) => Opened::Granted(g),
-            Yes::Cells(_) => Opened::Refused(Refusal::BadWheel),
-        },
-        Answer::Refused(q) => Opened::Refused(q),
+    match a? {
+        Yes::Granted(g) => Ok(g),
+        Yes::Cells(_) => Err(Refusal::BadWheel),
     }
 }
 
-// A call's answer as that of a closing.
-pub fn cleared_as(a: Answer) -> Cleared
+// A call's answer as that of a closing. No closing tells of a grant: no call reaches that case, and `BadWheel`
+// fills it, because the function must answer for every yes.
+pub fn cleared_as(a: Result<Yes, Refusal>) -> Result<usize, Refusal>
     ensures { result ≡ to_cleared a }
 {
-    match a {
-        Answer::Done(y) => match y {
-            Yes::Granted(_) => Cleared::Refused(Refusal::BadWheel),
-            Yes::Cells(k) => Cleared::Cells(k),
-        },
-        Answer::Refused(q) => Cleared::Refused(q),
+    match a? {
+        Yes::Granted(_) => Err(Refusal::BadWheel),
+        Yes::Cells(k) => Ok(k),
     }
 }

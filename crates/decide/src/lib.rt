@@ -1,140 +1,130 @@
 // What a call is answered, decided with the table only lent to read: nothing is written here. The
 // decision sees one record of the list and is told of the rest whether it agrees with the table, so
-// that it serves every form of the list.
+// that it serves every form of the list. Each function asks some lines of the order, `?` goes on to the
+// next, and so the lowest number wins.
 #![tactic(auto)]
 
-ghost use Rattle.std.specs.Prelude.{◌≡◌, true, false, List, ℕ, ◌≤◌};
+ghost use Rattle.std.specs.Prelude.{◌≡◌, true, false, is_some, List, ℕ, ◌≤◌};
 ghost use Rattle.rules.specs.Wheels.{Legal};
 ghost use Rattle.rules.specs.Flows.{Own};
-ghost use Rattle.rules.specs.Orders.{Tabled};
+ghost use Rattle.rules.specs.Orders.{way_lines, flow_lines, path_lines, state_lines};
+ghost use Rattle.rules.specs.declared.Call.{Call};
 ghost use Rattle.rules.specs.declared.Verb.TheVariants.{ToOpen, ToClose};
-ghost use Rattle.decide.specs.Decisions.{Gates, of_selected, DecidesOwn, Decides};
+ghost use Rattle.table.specs.Along.{Walkable};
+ghost use Rattle.decide.specs.Decisions.{Gates, Asks, Settles, Decides};
 
-use rules::{Answer, Call, Chip, Demand, Record, Refusal, Selected, Verb, Yes};
+use rules::{Call, Chip, Demand, Path, Record, Refusal, Verb, Yes};
 
-// What every call on a table asks first: 1, 2, 3 and 4.
-#[derive(Clone, Copy)]
-pub enum Gate {
-    Shut(Refusal),
-    Through,
-}
-
-#[tactic(auto, using(crate::proofs::Passed::too_many))]
-pub fn enter(table: &[u8], chip: Chip, n: usize, agreed: bool) -> Gate
-    ensures { Gates chip table.now n (agreed ≡ false) result }
+// What every call on a table asks first: 1, 2, 3 and 4. Where table and list agree, `held` is how many
+// cells the flows hold, and that is handed on.
+pub fn enter(table: &[u8], chip: Chip, n: usize, held: Option<usize>) -> Result<usize, Refusal>
+    ensures { Gates chip table.now n held result }
 {
-    let w = chip.wheel;
-    if !measure::legal(w) {
-        return Gate::Shut(Refusal::BadWheel);
+    if !measure::legal(chip.wheel) {
+        return Err(Refusal::BadWheel);
     }
     if !table::is_table(table, chip) {
-        return Gate::Shut(Refusal::BadTable);
+        return Err(Refusal::BadTable);
     }
-    if n < 1 {
-        return Gate::Shut(Refusal::BadList);
+    if n < 1 || 64 < n {
+        return Err(Refusal::BadList);
     }
-    if 64 < n {
-        return Gate::Shut(Refusal::BadList);
-    }
-    if !agreed {
-        return Gate::Shut(Refusal::Disagree);
-    }
-    Gate::Through
+    held.ok_or(Refusal::Disagree)
 }
 
-// The answer of bare selection as that of a call.
-fn answer_of(a: Selected) -> Answer
-    ensures { result ≡ of_selected a }
+// What an opening asks of its path: 5, 6, 7.
+fn pass_path(path: Path, chip: Chip) -> Result<(), Refusal>
+    ensures { Asks (path_lines chip path.entries path.len) result }
 {
-    match a {
-        Selected::Chosen(g) => Answer::Done(Yes::Granted(g)),
-        Selected::Refused(q) => Answer::Refused(q),
+    if path.len < 1 || 16 < path.len {
+        return Err(Refusal::PathLength);
+    }
+    if !flows::inside(path, chip.channels) {
+        return Err(Refusal::NoChannel);
+    }
+    if !flows::once(path) {
+        return Err(Refusal::ChannelTwice);
+    }
+    Ok(())
+}
+
+// What comes before the flow: an opening's path.
+fn pass_way(call: Call, chip: Chip) -> Result<(), Refusal>
+    ensures { Asks (way_lines chip call call.verb) result }
+{
+    match call.verb {
+        Verb::ToOpen(_) => pass_path(call.path, chip),
+        Verb::ToClose => Ok(()),
     }
 }
 
-// Decides on opening behind the gate: 5 to 9, 11, 12, and then selection among the free slots of the
-// path.
-fn decide_path(table: &[u8], chip: Chip, n: usize, r: Record, call: Call, demand: Demand) -> Answer
-    requires { Legal chip.wheel × Tabled chip.channels table.now }
-    ensures { DecidesOwn chip table.now n r call (ToOpen demand) result }
+// Whether a list of n records has the flow: 8.
+fn pass_flow(flow: usize, n: usize) -> Result<(), Refusal>
+    ensures { Asks (flow_lines n flow) result }
 {
-    let len = call.len;
-    if len < 1 {
-        return Answer::Refused(Refusal::PathLength);
+    if flow < 1 || n < flow {
+        return Err(Refusal::NoFlow);
     }
-    if 16 < len {
-        return Answer::Refused(Refusal::PathLength);
-    }
-    let path = call.path;
-    if !flows::inside(path, len, chip.channels) {
-        return Answer::Refused(Refusal::NoChannel);
-    }
-    if !flows::once(path, len) {
-        return Answer::Refused(Refusal::ChannelTwice);
-    }
-    if call.flow < 1 {
-        return Answer::Refused(Refusal::NoFlow);
-    }
-    if n < call.flow {
-        return Answer::Refused(Refusal::NoFlow);
-    }
-    let s = r.state;
-    if flows::claims_cells(s) {
-        return Answer::Refused(Refusal::AlreadyOpen);
+    Ok(())
+}
+
+// Decides on opening a flow in this state: 9, 11, 12, and then selection among the free slots of the path.
+fn decide_opening(
+    table: &[u8],
+    chip: Chip,
+    r: Record,
+    call: Call,
+    demand: Demand,
+) -> Result<Yes, Refusal>
+    requires legal { Legal chip.wheel }
+    requires walkable { Walkable chip table.now call.path.entries call.path.len }
+    ensures { Settles (state_lines chip table.now r.state call (ToOpen demand)) chip table.now r call (ToOpen demand) result }
+{
+    if flows::claims_cells(r.state) {
+        return Err(Refusal::AlreadyOpen);
     }
     if demand.words.0 < 1 {
-        return Answer::Refused(Refusal::NoWords);
+        return Err(Refusal::NoWords);
     }
-    let last = demand.deadline as usize;
-    let travel = route::travel(chip, path, len);
+    let last = usize::from(demand.deadline);
+    let travel = route::travel(chip, call.path);
     if last <= travel {
-        return Answer::Refused(Refusal::NoTime);
+        return Err(Refusal::NoTime);
     }
-    let w = chip.wheel;
-    let free = table::free_slots(table, chip, path, len);
+    let free = table::free_slots(table, chip, call.path);
     let limit = (last - travel) as u16;
-    answer_of(select::select(w, free, demand.words, limit))
+    let granted = select::select(chip.wheel, free, demand.words, limit)?;
+    Ok(Yes::Granted(granted))
 }
 
-// Decides on closing behind the gate: 8, 10.
-fn decide_flow(chip: Chip, n: usize, r: Record, call: Call) -> Answer
-    requires { Legal chip.wheel × (r.len ≤ 16) }
-    ensures { (t : List ℕ) → DecidesOwn chip t n r call ToClose result }
+// Decides on closing a flow whose record is r: 10.
+fn decide_closing(chip: Chip, r: Record) -> Result<Yes, Refusal>
+    requires { Legal chip.wheel × (r.path.len ≤ 16) }
+    ensures { (t : List ℕ) (call : Call) → Settles (state_lines chip t r.state call ToClose) chip t r call ToClose result }
 {
-    if call.flow < 1 {
-        return Answer::Refused(Refusal::NoFlow);
+    if !flows::claims_cells(r.state) {
+        return Err(Refusal::NotOpen);
     }
-    if n < call.flow {
-        return Answer::Refused(Refusal::NoFlow);
-    }
-    let s = r.state;
-    if !flows::claims_cells(s) {
-        return Answer::Refused(Refusal::NotOpen);
-    }
-    let w = chip.wheel;
-    Answer::Done(Yes::Cells(flows::cells_of(w, r)))
+    Ok(Yes::Cells(flows::cells_of(chip.wheel, r)))
 }
 
-// Decides on a call behind the gate, by its verb.
-fn decide_own(table: &[u8], chip: Chip, n: usize, r: Record, call: Call) -> Answer
-    requires { Legal chip.wheel × Tabled chip.channels table.now × (r.len ≤ 16) }
-    ensures { DecidesOwn chip table.now n r call call.verb result }
+// Decides on a call on the flow whose record is r: 1 to 4, then what is its own.
+pub fn decide(
+    table: &[u8],
+    chip: Chip,
+    n: usize,
+    held: Option<usize>,
+    r: Record,
+    call: Call,
+) -> Result<Yes, Refusal>
+    requires { is_some held ≡ true → Own chip r.state r }
+    ensures { Decides chip table.now n (is_some held ≡ false) r call call.verb result }
 {
-    let v = call.verb;
-    match v {
-        Verb::ToOpen(d) => decide_path(table, chip, n, r, call, d),
-        Verb::ToClose => decide_flow(chip, n, r, call),
-    }
-}
-
-// Decides on a call: 1 to 4, then what is its own.
-pub fn decide(table: &[u8], chip: Chip, n: usize, agreed: bool, r: Record, call: Call) -> Answer
-    requires { agreed ≡ true → Own chip r.state r }
-    ensures { Decides chip table.now n (agreed ≡ false) r call call.verb result }
-{
-    let g = enter(table, chip, n, agreed);
-    match g {
-        Gate::Shut(q) => Answer::Refused(q),
-        Gate::Through => decide_own(table, chip, n, r, call),
+    enter(table, chip, n, held)?;
+    pass_way(call, chip)?;
+    pass_flow(call.flow, n)?;
+    match call.verb {
+        Verb::ToOpen(demand) => decide_opening(table, chip, r, call, demand),
+        Verb::ToClose => decide_closing(chip, r),
     }
 }

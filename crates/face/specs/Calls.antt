@@ -1,9 +1,8 @@
 -- What the calls promise to C, over the numbers as C gives them: any S, H, W, D or L, however wide.
-use Rattle.std.specs.Prelude.{◌≡◌, List, [], ◌∷◌, ◌⊎◌, ℕ, ◌-◌, ◌*◌, min}
+use Rattle.std.specs.Prelude.{◌≡◌, List, [], ◌∷◌, ◌⊎◌, ℕ, ◌-◌, ◌*◌, min, Result, Ok, Err}
+use Rattle.rules.specs.declared.Refusal.{Refusal}
 use Rattle.rules.specs.declared.Wheel.{Wheel}
 use Rattle.rules.specs.declared.Grant.{Grant}
-use Rattle.rules.specs.declared.Opened.{Opened}
-use Rattle.rules.specs.declared.Opened.TheVariants as opened
 use Rattle.rules.specs.Paths.{Chip, chip_of, allowed, free_slots, Stamped}
 use Rattle.rules.specs.Numbers.{number, Refuses, Passes}
 use Rattle.rules.specs.Orders.{report_order, open_order}
@@ -34,9 +33,9 @@ module _ (chip : Chip) (t b path : List ℕ) (m f W D : ℕ) (t' b' : List ℕ) 
     pub table : t' ≡ t
     pub list : b' ≡ b
 
-  abbrev pub OpensGiven : Opened → Type 0
-  OpensGiven (opened.Granted g) = Opening g
-  OpensGiven (opened.Refused q) = KeptClosed (number q)
+  abbrev pub OpensGiven : Result Grant Refusal → Type 0
+  OpensGiven (Ok g) = Opening g
+  OpensGiven (Err q) = KeptClosed (number q)
 
 -- the row of a channel: where it starts, and its N cells; or 1
 pub record Rowing (w : Wheel) (t : List ℕ) (c k : ℕ) (v v' : List ℕ) : Type 0 where

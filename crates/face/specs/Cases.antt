@@ -1,34 +1,25 @@
 -- What C is told, case by case, and the row by whether it has a cell.
-use Rattle.std.specs.Prelude.{◌≡◌, refl, List, [], ◌∷◌, ◌⊎◌, ℕ, ◌*◌, ◌≤◌, ◌<◌, length, drop}
+use Rattle.std.specs.Prelude.{◌≡◌, refl, List, [], ◌∷◌, ◌⊎◌, ℕ, ◌*◌, ◌≤◌, ◌<◌, length, drop, Result, Ok, Err}
 use Rattle.std.proofs.Common.{ap, subst, ◌∙◌, inr, arith, length-drop, length-take-le}
 use Rattle.std.proofs.Math.Logic.{inl}
 use Rattle.rules.specs.declared.Wheel.{Wheel}
 use Rattle.rules.specs.declared.Totals.{Totals}
 use Rattle.rules.specs.declared.Refusal.{Refusal}
-use Rattle.rules.specs.declared.Reported.{Reported}
-use Rattle.rules.specs.declared.Reported.TheVariants as reported
 use Rattle.rules.specs.Paths.{chip_of}
 use Rattle.rules.specs.Numbers.{number}
 use Rattle.rules.specs.Promises.{Reports, HasRow, Row}
 use Rattle.laws.specs.Logic.{le_or_lt}
 use Rattle.bytes_calls.specs.OverBytes.{ReportsBytes}
-use Rattle.face.specs.Told.{Said, Told}
 use Rattle.face.specs.Calls.{Agreeing, Rowing}
-
--- ---- an answer
-
-module _ {A : Type 0} (ofAnswer : A → Said) (a : A) (k : ℕ) (v v' : List ℕ) where
-  pub told_as : (b : A) → a ≡ b → Told (ofAnswer b) k v v' → Told (ofAnswer a) k v v'
-  told_as b e t = rw e t
 
 -- ---- agreement
 
-module _ (w : Wheel) (t b : List ℕ) (a : Reported) (reports : ReportsBytes (chip_of w t) t b a) where
-  pub agree_yes : (c : Totals) → a ≡ reported.Counted c → Agreeing w t b 0
+module _ (w : Wheel) (t b : List ℕ) (a : Result Totals Refusal) (reports : ReportsBytes (chip_of w t) t b a) where
+  pub agree_yes : (c : Totals) → a ≡ Ok c → Agreeing w t b 0
   unfolding Agreeing Reports
   agree_yes c e = inl (refl, (subst (ReportsBytes (chip_of w t) t b) e reports).0)
 
-  pub agree_no : (q : Refusal) (k : ℕ) → a ≡ reported.Refused q → k ≡ number q → Agreeing w t b k
+  pub agree_no : (q : Refusal) (k : ℕ) → a ≡ Err q → k ≡ number q → Agreeing w t b k
   unfolding Agreeing Reports
   agree_no q k e same = rw same (inr (subst (ReportsBytes (chip_of w t) t b) e reports))
 

@@ -1,16 +1,14 @@
 -- Each promise settles everything: any two results that it allows for one input are equal, number and array, table and list,
 -- byte for byte.
-use Rattle.std.specs.Prelude.{◌≡◌, List, ◌⊎◌, ℕ, ◌+◌, ◌-◌, ◌*◌, ◌/◌, ◌≤◌, ◌<◌, min, get_or}
+use Rattle.std.specs.Prelude.{◌≡◌, List, ◌⊎◌, ℕ, ◌+◌, ◌-◌, ◌*◌, ◌/◌, ◌≤◌, ◌<◌, min, get_or, Result, Ok, Err}
 use Rattle.std.proofs.Math.Path.{sym}
 use Rattle.std.proofs.Common.{ap, subst, ◌∙◌, inl, inr, arith, ext_get_or}
+use Rattle.rules.specs.declared.Refusal.{Refusal}
+use Rattle.rules.specs.declared.Yes.{Yes}
+use Rattle.rules.specs.declared.Grant.{Grant}
 use Rattle.rules.specs.declared.Wheel.{Wheel}
 use Rattle.rules.specs.declared.Record.{Record}
 use Rattle.rules.specs.declared.Call.{Call}
-use Rattle.rules.specs.declared.Answer.{Answer}
-use Rattle.rules.specs.declared.Answer.TheVariants as answer
-use Rattle.rules.specs.declared.Cleared.{Cleared}
-use Rattle.rules.specs.declared.Opened.{Opened}
-use Rattle.rules.specs.declared.Opened.TheVariants as opened
 use Rattle.rules.specs.Paths.{Chip, chip_of, Stamped}
 use Rattle.rules.specs.Numbers.{number}
 use Rattle.rules.specs.Orders.{report_order, open_order, closing}
@@ -24,8 +22,10 @@ use Rattle.ledger.specs.Lines.{stable}
 use Rattle.ledger.specs.Stamps.{stamped_unique}
 use Rattle.ledger.specs.Calls.{Settled, closes_unique, reports_unique}
 use Rattle.bytes_list.specs.Layout.{count_of, list_in, asks, Written}
-use Rattle.bytes_calls.specs.OverBytes.{Leaves, ReportsBytes, ClosesBytes}
-use Rattle.face.specs.Told.{Said, values, refusal, Told, of_selected, of_opened, of_cleared, of_reported, Answered}
+use Rattle.lent.specs.Lists.{PutBytes}
+use Rattle.perform.specs.Performed.{Leaves}
+use Rattle.bytes_calls.specs.OverBytes.{ReportsBytes, ClosesBytes}
+use Rattle.face.specs.Told.{Told, of_granted, of_cleared, of_reported, Answered}
 use Rattle.face.specs.Calls.{Agreeing, OpensGiven, Rowing}
 
 -- ---- bytes of a list with one record written
@@ -54,12 +54,12 @@ pub record Same (k l : ℕ) (v u : List ℕ) : Type 0 where
   pub number : k ≡ l
   pub values : v ≡ u
 
-told_unique : (s : Said) (k l : ℕ) (v v₁ v₂ : List ℕ) → Told s k v v₁ → Told s l v v₂ → Same k l v₁ v₂
-told_unique (values xs) k l v v₁ v₂ p q = record { number = p.0 ∙ sym q.0; values = p.1 ∙ sym q.1 }
-told_unique (refusal r) k l v v₁ v₂ p q = record { number = p.0 ∙ sym q.0; values = p.1 ∙ sym q.1 }
+told_unique : (s : Result (List ℕ) Refusal) (k l : ℕ) (v v₁ v₂ : List ℕ) → Told s k v v₁ → Told s l v v₂ → Same k l v₁ v₂
+told_unique (Ok xs) k l v v₁ v₂ p q = record { number = p.0 ∙ sym q.0; values = p.1 ∙ sym q.1 }
+told_unique (Err r) k l v v₁ v₂ p q = record { number = p.0 ∙ sym q.0; values = p.1 ∙ sym q.1 }
 
 -- where the promises settle the answer
-answered_unique : {A : Type 0} (P Q : A → Type 0) (said : A → Said) → ((a b : A) → P a → Q b → a ≡ b) → (k l : ℕ) (v v₁ v₂ : List ℕ)
+answered_unique : {A : Type 0} (P Q : A → Type 0) (said : A → Result (List ℕ) Refusal) → ((a b : A) → P a → Q b → a ≡ b) → (k l : ℕ) (v v₁ v₂ : List ℕ)
     → Answered P said k v v₁ → Answered Q said l v v₂ → Same k l v₁ v₂
 answered_unique P Q said unique k l v v₁ v₂ p q =
     told_unique (said p.answer) k l v v₁ v₂ p.told
@@ -74,9 +74,9 @@ pub record SameBytes (k l : ℕ) (v u t t' b b' : List ℕ) : Type 0 where
 module _ (k l : ℕ) (v v₁ v₂ : List ℕ) where
   -- ---- bare selection
 
-  pub select_unique : (w : Wheel) (free W L : ℕ) → Answered (Selects w free W L) of_selected k v v₁ → Answered (Selects w free W L) of_selected l v v₂
+  pub select_unique : (w : Wheel) (free W L : ℕ) → Answered (Selects w free W L) of_granted k v v₁ → Answered (Selects w free W L) of_granted l v v₂
       → Same k l v₁ v₂
-  select_unique w free W L p q = answered_unique (Selects w free W L) (Selects w free W L) of_selected (selects_unique w free W L) k l v v₁ v₂ p q
+  select_unique w free W L p q = answered_unique (Selects w free W L) (Selects w free W L) of_granted (selects_unique w free W L) k l v v₁ v₂ p q
 
   -- ---- the row
 
@@ -97,6 +97,10 @@ module _ (k l : ℕ) (v v₁ v₂ : List ℕ) where
   agree_unique w t b (inr p) (inr q) = settled (report_order (chip_of w t) t (count_of b) (list_in b)) k l p q
 
   module _ (chip : Chip) (t b : List ℕ) where
+    -- the bytes of the list after a call
+    abbrev Left : Call → List ℕ → Result Yes Refusal → Type 0
+    Left = Leaves count_of list_in PutBytes b
+
     -- ---- the report
 
     pub report_unique : Answered (ReportsBytes chip t b) of_reported k v v₁ → Answered (ReportsBytes chip t b) of_reported l v v₂ → Same k l v₁ v₂
@@ -106,11 +110,11 @@ module _ (k l : ℕ) (v v₁ v₂ : List ℕ) where
     module _ (t₁ t₂ b₁ b₂ : List ℕ) where
       -- ---- closing
 
-      bytes_unique : (call : Call) (a : Answer) → Leaves chip t b call b₁ a → Leaves chip t b call b₂ a → b₁ ≡ b₂
-      bytes_unique call (answer.Done y) p q = written_unique b (64 * (call.flow - 1)) _ b₁ b₂ p q
-      bytes_unique call (answer.Refused r) p q = p ∙ sym q
+      bytes_unique : (call : Call) (a : Result Yes Refusal) → Left call b₁ a → Left call b₂ a → b₁ ≡ b₂
+      bytes_unique call (Ok y) p q = written_unique b (64 * (call.flow - 1)) _ b₁ b₂ p q
+      bytes_unique call (Err r) p q = p ∙ sym q
 
-      closed : (f : ℕ) (x y : Cleared) → ClosesBytes chip t b f t₁ b₁ x → ClosesBytes chip t b f t₂ b₂ y → Settled x y t₁ t₂ (list_in b₁) (list_in b₂)
+      closed : (f : ℕ) (x y : Result ℕ Refusal) → ClosesBytes chip t b f t₁ b₁ x → ClosesBytes chip t b f t₂ b₂ y → Settled x y t₁ t₂ (list_in b₁) (list_in b₂)
       unfolding Closes
       closed f x y p q = closes_unique chip t (count_of b) (list_in b) f t₁ t₂ (list_in b₁) (list_in b₂) x y p.answers q.answers
 
@@ -123,42 +127,42 @@ module _ (k l : ℕ) (v v₁ v₂ : List ℕ) where
                 answered_unique (ClosesBytes chip t b f t₁ b₁) (ClosesBytes chip t b f t₂ b₂) of_cleared (λ x y c d. (closed f x y c d).answer) k l v v₁ v₂ p q;
             table = s.table;
             list =
-                bytes_unique (closing f) (promises.of_cleared p.answer) p.promised.bytes
-                (subst (λ a. Leaves chip t b (closing f) b₂ (promises.of_cleared a)) (sym s.answer) q.promised.bytes);
+                bytes_unique (closing f) (promises.of_cleared p.answer) p.promised.list
+                (subst (λ a. Left (closing f) b₂ (promises.of_cleared a)) (sym s.answer) q.promised.list);
           }
 
       -- ---- opening
 
       module _ (path : List ℕ) (m f W D : ℕ) where
-        opened_same : (x y : Opened) → OpensGiven chip t b path m f W D t₁ b₁ x → OpensGiven chip t b path m f W D t₂ b₂ y
+        opened_same : (x y : Result Grant Refusal) → OpensGiven chip t b path m f W D t₁ b₁ x → OpensGiven chip t b path m f W D t₂ b₂ y
             → (x ≡ y) × (t₁ ≡ t₂) × (b₁ ≡ b₂)
-        opened_same (opened.Granted g) (opened.Granted h) p q =
+        opened_same (Ok g) (Ok h) p q =
             let order = open_order chip t (count_of b) (list_in b) path m f (asks W D) in
             let e = grants_unique g h p.grants q.grants in
             let long = (stable (tabled_decided chip.channels t) (passed order 2 p.passes)).long in (
-              ap opened.Granted e,
+              ap Ok e,
               stamped_unique chip path m h.slots chip.channels f t t₁ t₂ long
                   (subst (λ x. Stamped chip path m x.slots f t t₁) e p.table) q.table,
               written_unique b (64 * (f - 1)) (open_record path m h.slots (asks W (min D 65535))) b₁ b₂
                   (subst (λ x. Written b (64 * (f - 1)) (open_record path m x.slots (asks W (min D 65535))) b₁) e p.list) q.list,
             )
-        opened_same (opened.Granted g) (opened.Refused r) p q =
+        opened_same (Ok g) (Err r) p q =
             absurd (passes_not (open_order chip t (count_of b) (list_in b) path m f (asks W D)) (number r) p.passes q.refuses)
-        opened_same (opened.Refused r) (opened.Granted g) p q =
+        opened_same (Err r) (Ok g) p q =
             absurd (passes_not (open_order chip t (count_of b) (list_in b) path m f (asks W D)) (number r) q.passes p.refuses)
-        opened_same (opened.Refused r) (opened.Refused s) p q = (
-          ap opened.Refused (same_number r s (settled (open_order chip t (count_of b) (list_in b) path m f (asks W D)) (number r) (number s) p.refuses q.refuses)),
+        opened_same (Err r) (Err s) p q = (
+          ap Err (same_number r s (settled (open_order chip t (count_of b) (list_in b) path m f (asks W D)) (number r) (number s) p.refuses q.refuses)),
           p.table ∙ sym q.table,
           p.list ∙ sym q.list,
         )
 
-        pub open_unique : Answered (OpensGiven chip t b path m f W D t₁ b₁) of_opened k v v₁ → Answered (OpensGiven chip t b path m f W D t₂ b₂) of_opened l v v₂
+        pub open_unique : Answered (OpensGiven chip t b path m f W D t₁ b₁) of_granted k v v₁ → Answered (OpensGiven chip t b path m f W D t₂ b₂) of_granted l v v₂
             → SameBytes k l v₁ v₂ t₁ t₂ b₁ b₂
         open_unique p q =
             let (_, table, list) = opened_same p.answer q.answer p.promised q.promised in
             record {
               told =
-                  answered_unique (OpensGiven chip t b path m f W D t₁ b₁) (OpensGiven chip t b path m f W D t₂ b₂) of_opened
+                  answered_unique (OpensGiven chip t b path m f W D t₁ b₁) (OpensGiven chip t b path m f W D t₂ b₂) of_granted
                   (λ x y c d. (opened_same x y c d).0) k l v v₁ v₂ p q;
               table = table;
               list = list;

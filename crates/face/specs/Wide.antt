@@ -1,20 +1,14 @@
 -- Above 65,535 a number acts as 65,535, and that changes no answer: a wheel with such an S or H is not legal either way; no
 -- set delivers so many words; and no gap is longer than N, so that a limit above N restricts nothing.
-use Rattle.std.specs.Prelude.{◌≡◌, List, [], ◌∷◌, ◌⊎◌, ℕ, ◌-◌, ◌*◌, ◌≤◌, ◌<◌, min}
+use Rattle.std.specs.Prelude.{◌≡◌, List, [], ◌∷◌, ◌⊎◌, ℕ, ◌-◌, ◌*◌, ◌≤◌, ◌<◌, min, Result, Ok, Err}
 use Rattle.std.proofs.Common.{sym, subst, inl, inr, arith}
+use Rattle.rules.specs.declared.Refusal.{Refusal}
+use Rattle.rules.specs.declared.Yes.{Yes}
+use Rattle.rules.specs.declared.Totals.{Totals}
 use Rattle.rules.specs.declared.Wheel.{Wheel}
 use Rattle.rules.specs.declared.Call.{Call}
 use Rattle.rules.specs.declared.Demand.{Demand}
 use Rattle.rules.specs.declared.Grant.{Grant}
-use Rattle.rules.specs.declared.Answer.{Answer}
-use Rattle.rules.specs.declared.Answer.TheVariants as answer
-use Rattle.rules.specs.declared.Selected.{Selected}
-use Rattle.rules.specs.declared.Selected.TheVariants as selected
-use Rattle.rules.specs.declared.Opened.{Opened}
-use Rattle.rules.specs.declared.Opened.TheVariants as opened
-use Rattle.rules.specs.declared.Cleared.{Cleared}
-use Rattle.rules.specs.declared.Reported.{Reported}
-use Rattle.rules.specs.declared.Reported.TheVariants as reported
 use Rattle.rules.specs.Wheels.{Legal}
 use Rattle.rules.specs.Best.{Meets}
 use Rattle.rules.specs.Paths.{Chip, chip_of, travel, allowed, free_slots}
@@ -73,13 +67,13 @@ module _ (n s h p : ℕ) where
       go (yes l) = subst P (legal_same l) held
       go (no l) = bad (λ q. l (legal_given q)) l held
 
-  selects_wheel : (free W L : ℕ) (a : Selected) → Selects short free W L a → Selects given free W L a
+  selects_wheel : (free W L : ℕ) (a : Result Grant Refusal) → Selects short free W L a → Selects given free W L a
   unfolding Selects Passes
   selects_wheel free W L a = either (λ w. Selects w free W L a) (bad a)
     where
-      bad : (a : Selected) → ¬ Legal short → ¬ Legal given → Selects short free W L a → Selects given free W L a
-      bad (selected.Chosen g) ns ng q = absurd (q.0.0 ns)
-      bad (selected.Refused r) ns ng q = refused_first short given ns ng _ _ _ q
+      bad : (a : Result Grant Refusal) → ¬ Legal short → ¬ Legal given → Selects short free W L a → Selects given free W L a
+      bad (Ok g) ns ng q = absurd (q.0.0 ns)
+      bad (Err r) ns ng q = refused_first short given ns ng _ _ _ q
 
   row_wheel : (t : List ℕ) (c : ℕ) (part : List ℕ) → Row (chip_of short t) t c part → Row (chip_of given t) t c part
   row_wheel t c part =
@@ -87,25 +81,25 @@ module _ (n s h p : ℕ) where
       record { good = λ a. absurd (ng a.legal); bad = λ _. q.bad (λ a. ns a.legal) }
 
   module _ (t b : List ℕ) where
-    reports_wheel : (a : Reported) → Reports (chip_of short t) t (count_of b) (list_in b) a → Reports (chip_of given t) t (count_of b) (list_in b) a
+    reports_wheel : (a : Result Totals Refusal) → Reports (chip_of short t) t (count_of b) (list_in b) a → Reports (chip_of given t) t (count_of b) (list_in b) a
     unfolding Reports Passes
     reports_wheel a = either (λ w. Reports (chip_of w t) t (count_of b) (list_in b) a) (bad a)
       where
-        bad : (a : Reported) → ¬ Legal short → ¬ Legal given → Reports (chip_of short t) t (count_of b) (list_in b) a
+        bad : (a : Result Totals Refusal) → ¬ Legal short → ¬ Legal given → Reports (chip_of short t) t (count_of b) (list_in b) a
             → Reports (chip_of given t) t (count_of b) (list_in b) a
-        bad (reported.Counted c) ns ng q = absurd (q.0.0 ns)
-        bad (reported.Refused r) ns ng q = refused_first short given ns ng _ _ _ q
+        bad (Ok c) ns ng q = absurd (q.0.0 ns)
+        bad (Err r) ns ng q = refused_first short given ns ng _ _ _ q
 
-    performs_wheel : (call : Call) (t' b' : List ℕ) (a : Answer) → PerformsBytes (chip_of short t) t b call t' b' a
+    performs_wheel : (call : Call) (t' b' : List ℕ) (a : Result Yes Refusal) → PerformsBytes (chip_of short t) t b call t' b' a
         → PerformsBytes (chip_of given t) t b call t' b' a
     unfolding Passes
     performs_wheel call t' b' a = either (λ w. PerformsBytes (chip_of w t) t b call t' b' a) (bad a)
       where
-        bad : (a : Answer) → ¬ Legal short → ¬ Legal given → PerformsBytes (chip_of short t) t b call t' b' a
+        bad : (a : Result Yes Refusal) → ¬ Legal short → ¬ Legal given → PerformsBytes (chip_of short t) t b call t' b' a
             → PerformsBytes (chip_of given t) t b call t' b' a
-        bad (answer.Done y) ns ng q = absurd (q.answers.0.0 ns)
-        bad (answer.Refused r) ns ng q =
-            record { answers = (refused_first short given ns ng _ _ _ q.answers.0, q.answers.1, q.answers.2); bytes = q.bytes }
+        bad (Ok y) ns ng q = absurd (q.answers.0.0 ns)
+        bad (Err r) ns ng q =
+            record { answers = (refused_first short given ns ng _ _ _ q.answers.0, q.answers.1, q.answers.2); list = q.list }
 
 -- ---- words and limits, on a legal wheel
 
@@ -177,16 +171,16 @@ module _ (w : Wheel) (free W L : ℕ) where
       alike_given 12 _ _ _ _ (λ e. omega arith) (λ e. omega arith) λ _.
       room_alike w legal free W (min L 65535) L (limit_same legal)
 
-  selects_wide : (a : Selected) → Selects w free (min W 65535) (min L 65535) a → Selects w free W L a
+  selects_wide : (a : Result Grant Refusal) → Selects w free (min W 65535) (min L 65535) a → Selects w free W L a
   unfolding Selects
-  selects_wide (selected.Chosen g) q =
+  selects_wide (Ok g) q =
       let order = select_order w free (min W 65535) (min L 65535) in
       let legal = stable (legal_decided w) (passed order 1 q.0) in
       let words = words_same w legal free W (passed order 13 q.0) in (
         passes_alike _ _ select_alike q.0,
         grants_same w legal free W (min L 65535) L (limit_same legal) g (subst (λ k. Grants w free k (min L 65535) g) words q.1),
       )
-  selects_wide (selected.Refused r) q = refuses_alike _ _ _ select_alike q
+  selects_wide (Err r) q = refuses_alike _ _ _ select_alike q
 
 -- ---- opening
 
@@ -225,8 +219,8 @@ module _ (chip : Chip) (t b path : List ℕ) (m f W D : ℕ) where
       alike_given 12 _ _ _ _ (λ e. omega (arith, travel_short chip path m short)) (λ e. omega (arith, travel_short chip path m short)) λ _.
       room_alike chip.wheel legal (free_slots chip t path m) W (allowed chip path m (min D 65535)) (allowed chip path m D) (allowed_same legal short)
 
-  opens_wide : (t' b' : List ℕ) (a : Opened) → OpensBytes chip t b path m f d t' b' a → OpensGiven chip t b path m f W D t' b' a
-  opens_wide t' b' (opened.Granted g) q =
+  opens_wide : (t' b' : List ℕ) (a : Result Grant Refusal) → OpensBytes chip t b path m f d t' b' a → OpensGiven chip t b path m f W D t' b' a
+  opens_wide t' b' (Ok g) q =
       let legal = stable (legal_decided chip.wheel) (passed order 1 q.answers.0) in
       let short = fits (passed order 5 q.answers.0) in
       let words = words_same chip.wheel legal (free_slots chip t path m) W (passed order 13 q.answers.0) in
@@ -236,15 +230,15 @@ module _ (chip : Chip) (t b path : List ℕ) (m f W D : ℕ) where
             grants_same chip.wheel legal (free_slots chip t path m) W _ _ (allowed_same legal short) g
             (subst (λ k. Grants chip.wheel (free_slots chip t path m) k (allowed chip path m (min D 65535)) g) words q.answers.1);
         table = q.answers.2;
-        list = subst (λ k. Written b (64 * (f - 1)) (open_record path m g.slots (asks k (min D 65535))) b') words q.bytes;
+        list = subst (λ k. Written b (64 * (f - 1)) (open_record path m g.slots (asks k (min D 65535))) b') words q.list;
       }
-  opens_wide t' b' (opened.Refused r) q =
-      record { refuses = refuses_alike _ _ _ open_alike q.answers.0; table = q.answers.1; list = q.bytes }
+  opens_wide t' b' (Err r) q =
+      record { refuses = refuses_alike _ _ _ open_alike q.answers.0; table = q.answers.1; list = q.list }
 
 -- ---- each call, v being the wheel that the library was asked with
 
 module _ (n s h p : ℕ) (v : Wheel) (asked : v ≡ wheel_of n (min s 65535) (min h 65535) p) where
-  pub select_given : (free W L k l : ℕ) → k ≡ min W 65535 → l ≡ min L 65535 → (a : Selected) → Selects v free k l a
+  pub select_given : (free W L k l : ℕ) → k ≡ min W 65535 → l ≡ min L 65535 → (a : Result Grant Refusal) → Selects v free k l a
       → Selects (wheel_of n s h p) free W L a
   select_given free W L k l words limit a q =
       selects_wide (wheel_of n s h p) free W L a (selects_wheel n s h p free (min W 65535) (min L 65535) a (rw (← asked, ← words, ← limit) q))
@@ -253,18 +247,18 @@ module _ (n s h p : ℕ) (v : Wheel) (asked : v ≡ wheel_of n (min s 65535) (mi
   row_given t c part q = row_wheel n s h p t c part (subst (λ w. Row (chip_of w t) t c part) asked q)
 
   module _ (t b : List ℕ) where
-    pub report_given : (a : Reported) → ReportsBytes (chip_of v t) t b a → ReportsBytes (chip_of (wheel_of n s h p) t) t b a
+    pub report_given : (a : Result Totals Refusal) → ReportsBytes (chip_of v t) t b a → ReportsBytes (chip_of (wheel_of n s h p) t) t b a
     report_given a q = reports_wheel n s h p t b a (subst (λ w. ReportsBytes (chip_of w t) t b a) asked q)
 
     module _ (t' b' : List ℕ) where
-      performs_given : (call : Call) (a : Answer) → PerformsBytes (chip_of v t) t b call t' b' a
+      performs_given : (call : Call) (a : Result Yes Refusal) → PerformsBytes (chip_of v t) t b call t' b' a
           → PerformsBytes (chip_of (wheel_of n s h p) t) t b call t' b' a
       performs_given call a q = performs_wheel n s h p t b call t' b' a (subst (λ w. PerformsBytes (chip_of w t) t b call t' b' a) asked q)
 
-      pub close_given : (f : ℕ) (a : Cleared) → ClosesBytes (chip_of v t) t b f t' b' a → ClosesBytes (chip_of (wheel_of n s h p) t) t b f t' b' a
+      pub close_given : (f : ℕ) (a : Result ℕ Refusal) → ClosesBytes (chip_of v t) t b f t' b' a → ClosesBytes (chip_of (wheel_of n s h p) t) t b f t' b' a
       close_given f a q = performs_given (closing f) (of_cleared a) q
 
-      pub open_given : (path : List ℕ) (m f W D k l : ℕ) → k ≡ min W 65535 → l ≡ min D 65535 → (a : Opened)
+      pub open_given : (path : List ℕ) (m f W D k l : ℕ) → k ≡ min W 65535 → l ≡ min D 65535 → (a : Result Grant Refusal)
           → OpensBytes (chip_of v t) t b path m f (asks k l) t' b' a → OpensGiven (chip_of (wheel_of n s h p) t) t b path m f W D t' b' a
       open_given path m f W D k l words deadline a q =
           opens_wide (chip_of (wheel_of n s h p) t) t b path m f W D t' b' a

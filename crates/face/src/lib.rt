@@ -5,15 +5,15 @@
 // what users call stands in include/jellyspire.h.
 #![tactic(auto)]
 
-ghost use Rattle.std.specs.Prelude.{◌≡◌, min, length};
+ghost use Rattle.std.specs.Prelude.{◌≡◌, min};
 ghost use Rattle.rules.specs.Paths.{chip_of};
 ghost use Rattle.rules.specs.Numbers.{number};
 ghost use Rattle.rules.specs.Promises.{Selects};
 ghost use Rattle.bytes_calls.specs.OverBytes.{ReportsBytes, ClosesBytes};
-ghost use Rattle.face.specs.Told.{Told, of_selected, of_opened, of_cleared, of_reported, grant_values, Answered};
+ghost use Rattle.face.specs.Told.{Told, of_granted, of_cleared, of_reported, Answered};
 ghost use Rattle.face.specs.Calls.{wheel_of, Agreeing, OpensGiven, Rowing};
 
-use rules::{Cleared, Demand, Grant, Opened, Refusal, Reported, Selected, Wheel, Words};
+use rules::{Demand, Grant, Refusal, Totals, Wheel, Words};
 
 // ---- what C gives
 
@@ -21,107 +21,65 @@ use rules::{Cleared, Demand, Grant, Opened, Refusal, Reported, Selected, Wheel, 
 fn short(v: usize) -> u16
     ensures { result ≡ min v 65535 }
 {
-    if 65535 < v {
-        return 65535;
-    }
-    v as u16
+    v.min(65535) as u16
 }
 
 // The wheel of four numbers. No wheel with S or H above 65,535 is legal, and none becomes so.
 fn wheel_of(n: usize, s: usize, h: usize, p: usize) -> Wheel
     ensures { result ≡ wheel_of n (min s 65535) (min h 65535) p }
 {
-    let words = short(s);
-    let header = short(h);
     Wheel {
         n,
-        s: Words(words),
-        h: Words(header),
+        s: Words(short(s)),
+        h: Words(short(h)),
         p,
     }
 }
 
 // ---- what C is told
 
-// The number of a refusal in 64 bits.
-fn wide(number: u8) -> u64
-    ensures { result ≡ number }
-{
-    number as u64
-}
-
-// A number of words in 64 bits.
-fn long(words: Words) -> u64
-    ensures { result ≡ words.0 }
-{
-    words.0 as u64
-}
-
 // Document 01's number of a refusal.
 fn number_of(no: Refusal) -> u64
     ensures { result ≡ number no }
 {
-    wide(numbers::number(no))
+    u64::from(numbers::number(no))
+}
+
+// An answer: 0, and its values in the array; or the number of a no, and the array as it is.
+fn tell<const N: usize>(a: Result<[u64; N], Refusal>, values: &mut [u64; N]) -> u64
+    ensures { Told a.entry result values.old values.new }
+{
+    match a {
+        Ok(v) => {
+            *values = v;
+            0
+        }
+        Err(no) => number_of(no),
+    }
 }
 
 // A grant's slots, their number, and the words that they deliver.
-fn tell_grant(g: Grant, values: &mut [u64; 3])
-    ensures { values.new ≡ grant_values g }
+fn granted(a: Result<Grant, Refusal>) -> Result<[u64; 3], Refusal>
+    ensures { result ≡ of_granted a }
 {
-    let words = g.words;
-    *values = [g.slots, g.count as u64, long(words)];
+    let g = a?;
+    Ok([g.slots, g.count as u64, u64::from(g.words.0)])
 }
 
-// The answer of bare selection.
-fn tell_selected(a: Selected, values: &mut [u64; 3]) -> u64
-    ensures { Told (of_selected a) result values.old values.new }
+// How many cells a closing cleared.
+fn cleared(a: Result<usize, Refusal>) -> Result<[u64; 1], Refusal>
+    ensures { result ≡ of_cleared a }
 {
-    match a {
-        Selected::Chosen(g) => {
-            tell_grant(g, values);
-            0
-        }
-        Selected::Refused(no) => number_of(no),
-    }
+    let cells = a?;
+    Ok([cells as u64])
 }
 
-// The answer of an opening.
-fn tell_opened(a: Opened, values: &mut [u64; 3]) -> u64
-    ensures { Told (of_opened a) result values.old values.new }
+// Free and held cells.
+fn counted(a: Result<Totals, Refusal>) -> Result<[u64; 2], Refusal>
+    ensures { result ≡ of_reported a }
 {
-    match a {
-        Opened::Granted(g) => {
-            tell_grant(g, values);
-            0
-        }
-        Opened::Refused(no) => number_of(no),
-    }
-}
-
-// The answer of a closing: how many cells it cleared.
-fn tell_cleared(a: Cleared, values: &mut [u64; 1]) -> u64
-    ensures { Told (of_cleared a) result values.old values.new }
-{
-    match a {
-        Cleared::Cells(cells) => {
-            *values = [cells as u64];
-            0
-        }
-        Cleared::Refused(no) => number_of(no),
-    }
-}
-
-// The answer of the report: free and held cells.
-fn tell_reported(a: Reported, values: &mut [u64; 2]) -> u64
-    ensures { Told (of_reported a) result values.old values.new }
-{
-    match a {
-        Reported::Counted(c) => {
-            *values = [c.free as u64, c.held as u64];
-            0
-        }
-        Reported::Refused(no) => number_of(no),
-    }
+    let c = a?;
+    Ok([c.free as u64, c.held as u64])
 }
 
 // ---- the calls
@@ -137,12 +95,13 @@ pub fn jellyspire_raw_select(
     limit: usize,
     values: &mut [u64; 3],
 ) -> u64
-    ensures { Answered (Selects (wheel_of n s h p) free words limit) of_selected result values.old values.new }
+    ensures { Answered (Selects (wheel_of n s h p) free words limit) of_granted result values.old values.new }
 {
     let w = wheel_of(n, s, h, p);
     let least = Words(short(words));
     let most = short(limit);
-    tell_selected(select::select(w, free, least, most), values)
+    let a = select::select(w, free, least, most);
+    tell(granted(a), values)
 }
 
 // Whether table and list agree: 0, or the number of the first thing that is wrong.
@@ -158,8 +117,8 @@ pub fn jellyspire_raw_agree(
 {
     let w = wheel_of(n, s, h, p);
     match bytes_calls::report(table, list, w) {
-        Reported::Counted(_) => 0,
-        Reported::Refused(no) => number_of(no),
+        Ok(_) => 0,
+        Err(no) => number_of(no),
     }
 }
 
@@ -177,7 +136,8 @@ pub fn jellyspire_raw_report(
         of_reported result values.old values.new }
 {
     let w = wheel_of(n, s, h, p);
-    tell_reported(bytes_calls::report(table, list, w), values)
+    let a = bytes_calls::report(table, list, w);
+    tell(counted(a), values)
 }
 
 // Opens a flow on a path of `len` channels with a demand: slots, how many, words.
@@ -196,7 +156,7 @@ pub fn jellyspire_raw_open(
     values: &mut [u64; 3],
 ) -> u64
     ensures { Answered (OpensGiven (chip_of (wheel_of n s h p) table.old) table.old list.old path.now len flow
-        words deadline table.new list.new) of_opened result values.old values.new }
+        words deadline table.new list.new) of_granted result values.old values.new }
 {
     let w = wheel_of(n, s, h, p);
     let channels = *path;
@@ -204,10 +164,8 @@ pub fn jellyspire_raw_open(
         words: Words(short(words)),
         deadline: short(deadline),
     };
-    tell_opened(
-        bytes_calls::open(table, list, w, flow, channels, len, demand),
-        values,
-    )
+    let a = bytes_calls::open(table, list, w, flow, channels, len, demand);
+    tell(granted(a), values)
 }
 
 // Closes a flow: how many cells that cleared.
@@ -225,14 +183,8 @@ pub fn jellyspire_raw_close(
         table.new list.new) of_cleared result values.old values.new }
 {
     let w = wheel_of(n, s, h, p);
-    tell_cleared(bytes_calls::close(table, list, w, flow), values)
-}
-
-// The number of bytes of a part.
-fn size_of(part: &[u8]) -> usize
-    ensures { result ≡ length part.now }
-{
-    part.len()
+    let a = bytes_calls::close(table, list, w, flow);
+    tell(cleared(a), values)
 }
 
 // Where the row of a channel starts in the table, and its length; 1 and nothing told if wheel, table
@@ -250,7 +202,7 @@ pub fn jellyspire_raw_row(
     ensures { Rowing (wheel_of n s h p) table.now channel result values.old values.new }
 {
     let w = wheel_of(n, s, h, p);
-    let length = size_of(table::row(table, w, channel));
+    let length = table::row(table, w, channel).len();
     if length == 0 {
         return 1;
     }

@@ -5,7 +5,7 @@
 ghost use Rattle.rules.specs.Paths.{chip_of};
 ghost use Rattle.rules.specs.Promises.{Selects};
 ghost use Rattle.bytes_calls.specs.OverBytes.{ReportsBytes, ClosesBytes};
-ghost use Rattle.face.specs.Told.{of_selected, of_opened, of_cleared, of_reported, Answered};
+ghost use Rattle.face.specs.Told.{of_granted, of_cleared, of_reported, Answered};
 ghost use Rattle.face.specs.Calls.{wheel_of, Agreeing, OpensGiven, Rowing};
 
 // Bare selection: slots, how many, words.
@@ -20,7 +20,7 @@ pub extern "C" fn jellyspire_raw_select(
     limit: usize,
     values: &mut [u64; 3],
 ) -> u64
-    ensures { Answered (Selects (wheel_of n s h p) free words limit) of_selected result values.old values.new }
+    ensures { Answered (Selects (wheel_of n s h p) free words limit) of_granted result values.old values.new }
 {
     face::jellyspire_raw_select(n, s, h, p, free, words, limit, values)
 }
@@ -74,7 +74,7 @@ pub extern "C" fn jellyspire_raw_open(
     values: &mut [u64; 3],
 ) -> u64
     ensures { Answered (OpensGiven (chip_of (wheel_of n s h p) table.old) table.old list.old path.now len flow
-        words deadline table.new list.new) of_opened result values.old values.new }
+        words deadline table.new list.new) of_granted result values.old values.new }
 {
     face::jellyspire_raw_open(
         table, list, n, s, h, p, flow, path, len, words, deadline, values,

@@ -1,7 +1,6 @@
 -- What the tests of a path and of a record say.
 use Rattle.std.specs.Prelude.{◌≡◌, Bool, List, ℕ, ◌<◌, get_or}
-use Rattle.std.proofs.Common.{sym}
-use Rattle.std.proofs.Math.Path.{subst}
+use Rattle.std.proofs.Common.{sym, subst}
 use Rattle.rules.specs.declared.Demand.{Demand}
 use Rattle.rules.specs.declared.State.TheVariants.{Closed, Open}
 use Rattle.rules.specs.declared.Record.{Record}

@@ -10,64 +10,51 @@ ghost use Rattle.rules.specs.Paths.{Inside, Once, Rest};
 ghost use Rattle.rules.specs.Flows.{claiming, Blank, Lawful, Own, cells_of};
 ghost use Rattle.flows.specs.Tests.{Fresh};
 
-use rules::{Chip, Demand, Record, State, Wheel};
+use rules::{Chip, Demand, Path, Record, State, Wheel};
 
 // Whether every entry is below the number of channels.
-pub fn inside(path: [u16; 16], len: usize, channels: usize) -> bool
-    requires { len ≤ 16 }
-    ensures { Tells result (Inside channels path len) }
+pub fn inside(path: Path, channels: usize) -> bool
+    requires { path.len ≤ 16 }
+    ensures { Tells result (Inside channels path.entries path.len) }
 {
-    let mut i = 0;
-    while i < len {
+    for i in 0..path.len {
         if channels <= route::channel(path, i) {
             return false;
         }
-        i += 1;
     }
     true
 }
 
 // Whether no entry before k is the entry at k.
-fn fresh(path: [u16; 16], k: usize) -> bool
+fn fresh(path: Path, k: usize) -> bool
     requires { k < 16 }
-    ensures { Tells result (Fresh path k) }
+    ensures { Tells result (Fresh path.entries k) }
 {
-    let c = path[k];
-    let mut i = 0;
-    while i < k {
-        if path[i] == c {
-            return false;
-        }
-        i += 1;
-    }
-    true
+    let entries = path.entries;
+    !entries[..k].contains(&entries[k])
 }
 
 // Whether no channel stands twice.
-pub fn once(path: [u16; 16], len: usize) -> bool
-    requires { len ≤ 16 }
-    ensures { Tells result (Once path len) }
+pub fn once(path: Path) -> bool
+    requires { path.len ≤ 16 }
+    ensures { Tells result (Once path.entries path.len) }
 {
-    let mut k = 0;
-    while k < len {
+    for k in 0..path.len {
         if !fresh(path, k) {
             return false;
         }
-        k += 1;
     }
     true
 }
 
 // Whether the entries from len on are zero.
-pub fn rest(path: [u16; 16], len: usize) -> bool
-    ensures { Tells result (Rest path len) }
+pub fn rest(path: Path) -> bool
+    ensures { Tells result (Rest path.entries path.len) }
 {
-    let mut i = len;
-    while i < 16 {
-        if path[i] != 0 {
+    for i in path.len..16 {
+        if path.entries[i] != 0 {
             return false;
         }
-        i += 1;
     }
     true
 }
@@ -77,82 +64,52 @@ pub fn meets(w: Wheel, words: u16, limit: usize, x: u64) -> bool
     requires { Legal w }
     ensures { Tells result (Meets w words limit x) }
 {
-    let delivered = measure::words(w, x);
-    if delivered.0 < words {
-        return false;
-    }
-    measure::largest_gap(w, x) <= limit
+    words <= measure::words(w, x).0 && measure::largest_gap(w, x) <= limit
 }
 
 // Whether a flow in this state claims cells.
+#[tactic(auto, unfolding(rules::specs::Flows::claiming))]
 pub fn claims_cells(s: State) -> bool
     ensures { result ≡ claiming s }
 {
-    match s {
-        State::Closed => false,
-        State::Open(_) => true,
-    }
+    matches!(s, State::Open(_))
 }
 
 // Whether a closed record has zeros.
 fn blank(r: Record) -> bool
     ensures { Tells result (Blank r) }
 {
-    let path = r.path;
-    if r.len != 0 {
-        return false;
-    }
-    if r.slots != 0 {
-        return false;
-    }
-    rest(path, 0)
+    r.path.len == 0 && r.slots == 0 && rest(r.path)
 }
 
 // Whether an open record with the demand d obeys its rules.
-#[tactic(auto, using(crate::proofs::Lengths::too_long))]
+#[tactic(auto, unfolding(rules::specs::Paths::allowed))]
 fn lawful(chip: Chip, d: Demand, r: Record) -> bool
     requires { Legal chip.wheel }
     ensures { Tells result (Lawful chip d r) }
 {
-    let w = chip.wheel;
     let path = r.path;
-    let len = r.len;
-    if len < 1 {
+    if path.len < 1 || 16 < path.len {
         return false;
     }
-    if 16 < len {
-        return false;
-    }
-    if !inside(path, len, chip.channels) {
-        return false;
-    }
-    if !once(path, len) {
-        return false;
-    }
-    if !rest(path, len) {
-        return false;
-    }
-    if d.words.0 < 1 {
-        return false;
-    }
-    let last = d.deadline as usize;
-    let travel = route::travel(chip, path, len);
-    if last <= travel {
-        return false;
-    }
-    if !measure::below(r.slots, w.n) {
-        return false;
-    }
-    meets(w, d.words.0, last - travel, r.slots)
+    let deadline = usize::from(d.deadline);
+    let travel = route::travel(chip, path);
+    inside(path, chip.channels)
+        && once(path)
+        && rest(path)
+        && 1 <= d.words.0
+        && travel < deadline
+        && measure::below(r.slots, chip.wheel.n)
+        && meets(chip.wheel, d.words.0, deadline - travel, r.slots)
 }
 
 // Whether a record obeys its own rules.
+#[tactic(auto, unfolding(rules::specs::Flows::Own))]
 pub fn own(chip: Chip, r: Record) -> bool
     requires { Legal chip.wheel }
     ensures { Tells result (Own chip r.state r) }
 {
-    let s = r.state;
-    match s {
+    match r.state {
         State::Closed => blank(r),
         State::Open(d) => lawful(chip, d, r),
     }
@@ -161,12 +118,11 @@ pub fn own(chip: Chip, r: Record) -> bool
 // How many cells a record's flow holds: slots times path length, and none if it claims none.
 pub fn cells_of(w: Wheel, r: Record) -> usize
     requires legal { Legal w }
-    requires len_bound { r.len ≤ 16 }
+    requires len_bound { r.path.len ≤ 16 }
     ensures { result ≡ cells_of w r }
 {
-    let s = r.state;
-    if !claims_cells(s) {
+    if !claims_cells(r.state) {
         return 0;
     }
-    measure::size(w, r.slots) * r.len
+    measure::size(w, r.slots) * r.path.len
 }

@@ -1,10 +1,9 @@
 -- On the default wheel a grant has slots below 8: they are free slots of the path, and those are slots of the wheel.
-use Rattle.std.specs.Prelude.{◌≡◌, Bool, true, List, ◌⊎◌, ℕ, ◌≤◌, ◌<◌}
+use Rattle.std.specs.Prelude.{◌≡◌, Bool, true, List, ◌⊎◌, ℕ, ◌≤◌, ◌<◌, Ok}
 use Rattle.std.proofs.Common.{inl, inr}
 use Rattle.rules.specs.declared.Demand.{Demand}
 use Rattle.rules.specs.declared.Record.{Record}
 use Rattle.rules.specs.declared.Grant.{Grant}
-use Rattle.rules.specs.declared.Opened.TheVariants as opened
 use Rattle.rules.specs.Sets.{has, Below, set_of}
 use Rattle.rules.specs.Paths.{chip_of, free, free_slots}
 use Rattle.rules.specs.Promises.{Opens}
@@ -20,6 +19,6 @@ set_below f n = record { below = λ s h. go s h (le_or_lt n s) }
     go s h (inr l) = l
 
 pub granted_below : (t : List ℕ) (list : List Record) (path : List ℕ) (m f : ℕ) (d : Demand) (t' : List ℕ) (list' : List Record) (g : Grant)
-    → Opens (chip_of wheel t) t 16 list path m f d t' list' (opened.Granted g) → Below 8 g.slots
+    → Opens (chip_of wheel t) t 16 list path m f d t' list' (Ok g) → Below 8 g.slots
 unfolding Opens free_slots
 granted_below t list path m f d t' list' g o = within_below (set_below (free (chip_of wheel t) t path m) 8) o.1.best.within

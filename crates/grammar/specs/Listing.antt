@@ -1,10 +1,10 @@
 -- What the program prints: a line for each line, from an empty table, 16 channels, 16 flows and the default wheel on.
-use Rattle.std.specs.Prelude.{◌≡◌, List, [], ◌∷◌, ◌++◌, ℕ, ◌+◌, ◌≤◌, ◌<◌, length, take, drop, replicate}
+use Rattle.std.specs.Prelude.{◌≡◌, List, [], ◌∷◌, ◌++◌, ℕ, ◌+◌, ◌≤◌, ◌<◌, length, take, drop, replicate, Result}
+use Rattle.rules.specs.declared.Refusal.{Refusal}
+use Rattle.rules.specs.declared.Totals.{Totals}
+use Rattle.rules.specs.declared.Grant.{Grant}
 use Rattle.rules.specs.declared.Wheel.{Wheel}
 use Rattle.rules.specs.declared.Record.{Record}
-use Rattle.rules.specs.declared.Opened.{Opened}
-use Rattle.rules.specs.declared.Cleared.{Cleared}
-use Rattle.rules.specs.declared.Reported.{Reported}
 use Rattle.rules.specs.Paths.{chip_of, trimmed}
 use Rattle.rules.specs.Promises.{closed_record, Opens, Closes, Reports}
 use Rattle.grammar.specs.Text.{lines}
@@ -21,25 +21,25 @@ pub record State : Type 0 where
   pub list : List Record
 
 -- the library's promises on 16 flows and the default wheel, from the state s to the state s'
-abbrev pub OpensFrom : State → (f W D : ℕ) (channels : List ℕ) → State → Opened → Type 0
+abbrev pub OpensFrom : State → (f W D : ℕ) (channels : List ℕ) → State → Result Grant Refusal → Type 0
 OpensFrom s f W D channels s' =
     Opens (chip_of wheel s.table) s.table 16 s.list (trimmed channels (length channels)) (length channels) f
     (record { words = record { 0 = W }; deadline = D }) s'.table s'.list
 
-abbrev pub ClosesFrom : State → ℕ → State → Cleared → Type 0
+abbrev pub ClosesFrom : State → ℕ → State → Result ℕ Refusal → Type 0
 ClosesFrom s f s' = Closes (chip_of wheel s.table) s.table 16 s.list f s'.table s'.list
 
-abbrev pub ReportsFrom : State → Reported → Type 0
+abbrev pub ReportsFrom : State → Result Totals Refusal → Type 0
 ReportsFrom s = Reports (chip_of wheel s.table) s.table 16 s.list
 
 -- ---- one line
 
 -- line k, and the text that it gets; s and s' are table and list before and after
 pub data Step (s : State) (k : ℕ) (line : List ℕ) (s' : State) (text : List ℕ) : Type 0 where
-  opens : (f W D : ℕ) (channels : List ℕ) (a : Opened) → Reads line (opening f W D channels) → OpensFrom s f W D channels s' a
+  opens : (f W D : ℕ) (channels : List ℕ) (a : Result Grant Refusal) → Reads line (opening f W D channels) → OpensFrom s f W D channels s' a
       → text ≡ open_text f a → Step s k line s' text
-  closes : (f : ℕ) (a : Cleared) → Reads line (closing f) → ClosesFrom s f s' a → text ≡ close_text f a → Step s k line s' text
-  reports : (a : Reported) → Reads line reporting → ReportsFrom s a → s' ≡ s → text ≡ report_text a → Step s k line s' text
+  closes : (f : ℕ) (a : Result ℕ Refusal) → Reads line (closing f) → ClosesFrom s f s' a → text ≡ close_text f a → Step s k line s' text
+  reports : (a : Result Totals Refusal) → Reads line reporting → ReportsFrom s a → s' ≡ s → text ≡ report_text a → Step s k line s' text
   bad : Bad line → s' ≡ s → text ≡ bad_text k → Step s k line s' text
 
 -- ---- all lines

@@ -1,16 +1,13 @@
 -- How long the texts are: no line that asks for something gets more than 83 bytes, and it has at least 6 itself; a bad
 -- line gets at most 13. So a line feed counted in, no line gets more than 14 bytes for each of its own.
-use Rattle.std.specs.Prelude.{◌≡◌, refl, Bool, true, false, cond, List, ◌∷◌, ℕ, zero, suc, ◌-◌, ◌*◌, ◌≤◌, ◌<◌, length}
+use Rattle.std.specs.Prelude.{◌≡◌, refl, Bool, true, false, cond, List, ◌∷◌, ℕ, zero, suc, ◌-◌, ◌*◌, ◌≤◌, ◌<◌, length, Result, Ok, Err}
 use Rattle.std.proofs.Common.{ap, arith}
 use Rattle.std.proofs.Math.ListN.{length-append}
+use Rattle.rules.specs.declared.Refusal.{Refusal}
+use Rattle.rules.specs.declared.Totals.{Totals}
+use Rattle.rules.specs.declared.Grant.{Grant}
 use Rattle.rules.specs.declared.Demand.{Demand}
 use Rattle.rules.specs.declared.Record.{Record}
-use Rattle.rules.specs.declared.Opened.{Opened}
-use Rattle.rules.specs.declared.Opened.TheVariants as opened
-use Rattle.rules.specs.declared.Cleared.{Cleared}
-use Rattle.rules.specs.declared.Cleared.TheVariants as cleared
-use Rattle.rules.specs.declared.Reported.{Reported}
-use Rattle.rules.specs.declared.Reported.TheVariants as reported
 use Rattle.rules.specs.Sets.{has, places, list_of}
 use Rattle.rules.specs.Numbers.{number}
 use Rattle.rules.specs.Paths.{chip_of}
@@ -46,22 +43,22 @@ slots_short f below i (suc m) = go (f i) refl (slots_short f below (suc i) m)
     go false e h = omega arith
 
 module _ (t : List ℕ) (list : List Record) (path : List ℕ) (m f : ℕ) (d : Demand) (t' : List ℕ) (list' : List Record) where
-  pub open_short : (a : Opened) → Opens (chip_of wheel t) t 16 list path m f d t' list' a → length (open_text f a) ≤ 83
+  pub open_short : (a : Result Grant Refusal) → Opens (chip_of wheel t) t 16 list path m f d t' list' a → length (open_text f a) ≤ 83
   unfolding open_text ascii list_of
-  open_short (opened.Granted g) o =
+  open_short (Ok g) o =
       simp length-append
       (omega (arith, field_long f, field_long g.words.0, slots_short (has g.slots) (granted_below t list path m f d t' list' g o).below 0 64))
-  open_short (opened.Refused r) o = simp length-append (omega (arith, field_long f, field_long (number r)))
+  open_short (Err r) o = simp length-append (omega (arith, field_long f, field_long (number r)))
 
-pub close_short : (f : ℕ) (a : Cleared) → length (close_text f a) ≤ 83
+pub close_short : (f : ℕ) (a : Result ℕ Refusal) → length (close_text f a) ≤ 83
 unfolding close_text ascii list_of
-close_short f (cleared.Cells k) = simp length-append (omega (arith, field_long f, field_long k))
-close_short f (cleared.Refused r) = simp length-append (omega (arith, field_long f, field_long (number r)))
+close_short f (Ok k) = simp length-append (omega (arith, field_long f, field_long k))
+close_short f (Err r) = simp length-append (omega (arith, field_long f, field_long (number r)))
 
-pub report_short : (a : Reported) → length (report_text a) ≤ 83
+pub report_short : (a : Result Totals Refusal) → length (report_text a) ≤ 83
 unfolding report_text ascii list_of
-report_short (reported.Counted c) = simp length-append (omega (arith, field_long c.free, field_long c.held))
-report_short (reported.Refused r) = simp length-append (omega (arith, field_long (number r)))
+report_short (Ok c) = simp length-append (omega (arith, field_long c.free, field_long c.held))
+report_short (Err r) = simp length-append (omega (arith, field_long (number r)))
 
 pub bad_short : (k : ℕ) → k < 10000 → length (bad_text k) ≤ 13
 unfolding bad_text ascii list_of

@@ -32,12 +32,11 @@ pub fn read_full<R: Read>(from: &mut R, room: &mut [u8]) -> io::Result<usize>
 pub fn argument<'a, E: Env>(env: &E, k: usize, room: &'a mut [u8]) -> io::Result<Option<&'a str>>
     ensures { IfOk result (λ o. IfSome o (λ s. length s.now ≤ length room.old)) }
 {
-    match env.arg(k, room) {
-        Ok(n) => match str::from_utf8(&room[..n]) {
-            Ok(text) => Ok(Some(text)),
-            Err(_) => Err(io::Error::from(io::ErrorKind::InvalidData)),
-        },
-        Err(FillError::NotPresent) => Ok(None),
-        Err(FillError::TooLong) => Err(io::Error::from(io::ErrorKind::InvalidInput)),
-    }
+    let n = match env.arg(k, room) {
+        Ok(n) => n,
+        Err(FillError::NotPresent) => return Ok(None),
+        Err(FillError::TooLong) => return Err(io::Error::from(io::ErrorKind::InvalidInput)),
+    };
+    let text = str::from_utf8(&room[..n]).map_err(|_| io::Error::from(io::ErrorKind::InvalidData))?;
+    Ok(Some(text))
 }

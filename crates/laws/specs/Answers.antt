@@ -1,10 +1,9 @@
 -- The answer of bare selection: 13 and 14 are tests on the whole of the free slots, and the inputs settle the answer.
-use Rattle.std.specs.Prelude.{◌≡◌, ℕ, ◌≤◌, ◌<◌}
+use Rattle.std.specs.Prelude.{◌≡◌, ℕ, ◌≤◌, ◌<◌, Result, Ok, Err}
 use Rattle.std.proofs.Common.{sym, ap, ◌∙◌, arith}
+use Rattle.rules.specs.declared.Refusal.{Refusal}
 use Rattle.rules.specs.declared.Wheel.{Wheel}
 use Rattle.rules.specs.declared.Grant.{Grant}
-use Rattle.rules.specs.declared.Selected.{Selected}
-use Rattle.rules.specs.declared.Selected.TheVariants.{Chosen, Refused}
 use Rattle.rules.specs.Wheels.{Legal, size, words, largest_gap}
 use Rattle.rules.specs.Best.{Meets}
 use Rattle.rules.specs.Numbers.{number}
@@ -56,9 +55,9 @@ grants_unique {w} g h a b =
     (a.words ∙ ap (words w) e ∙ sym b.words)
 
 -- any two answers that the promise allows for one input are equal
-pub selects_unique : (w : Wheel) (free W L : ℕ) (a b : Selected) → Selects w free W L a → Selects w free W L b → a ≡ b
+pub selects_unique : (w : Wheel) (free W L : ℕ) (a b : Result Grant Refusal) → Selects w free W L a → Selects w free W L b → a ≡ b
 unfolding Selects
-selects_unique w free W L (Chosen g) (Chosen h) p q = ap Chosen (grants_unique g h p.1 q.1)
-selects_unique w free W L (Chosen g) (Refused r) p q = absurd (passes_not (select_order w free W L) (number r) p.0 q)
-selects_unique w free W L (Refused r) (Chosen g) p q = absurd (passes_not (select_order w free W L) (number r) q.0 p)
-selects_unique w free W L (Refused r) (Refused s) p q = ap Refused (same_number r s (settled (select_order w free W L) (number r) (number s) p q))
+selects_unique w free W L (Ok g) (Ok h) p q = ap Ok (grants_unique g h p.1 q.1)
+selects_unique w free W L (Ok g) (Err r) p q = absurd (passes_not (select_order w free W L) (number r) p.0 q)
+selects_unique w free W L (Err r) (Ok g) p q = absurd (passes_not (select_order w free W L) (number r) q.0 p)
+selects_unique w free W L (Err r) (Err s) p q = ap Err (same_number r s (settled (select_order w free W L) (number r) (number s) p q))

@@ -1,11 +1,11 @@
 -- The bench examples P1 to P10 of document 01, proved of the rules: one table, one computed test, one law.
-use Rattle.std.specs.Prelude.{◌≡◌, refl, Bool, true, ◌&&◌, List, [], ◌∷◌, ◌++◌, ℕ, ◌+◌, ◌^◌, ◌≤◌, eqb, ltb, leb, length, get_or}
+use Rattle.std.specs.Prelude.{◌≡◌, refl, Bool, true, ◌&&◌, List, [], ◌∷◌, ◌++◌, ℕ, ◌+◌, ◌^◌, ◌≤◌, eqb, ltb, leb, length, get_or, Result, Ok, Err}
 use Rattle.std.proofs.Math.Logic.{inl, inr}
 use Rattle.std.proofs.Common.{arith}
 use borrow.Author.Tests.{eqb-true, ltb-true, leb-true}
+use Rattle.rules.specs.declared.Refusal.{Refusal}
+use Rattle.rules.specs.declared.Grant.{Grant}
 use Rattle.rules.specs.declared.Wheel.{Wheel}
-use Rattle.rules.specs.declared.Selected.{Selected}
-use Rattle.rules.specs.declared.Selected.TheVariants.{Chosen, Refused}
 use Rattle.rules.specs.declared.Refusal.TheVariants.{TooMuch, TooFar}
 use Rattle.rules.specs.Sets.{Below, has, set_of, any, all, sum, most, stretch, places, list_of}
 use Rattle.rules.specs.Wheels.{Legal, chosen, size, full, start, run, ceil, run_words, words_at, words, gap, gap_at, largest_gap}
@@ -42,10 +42,10 @@ data Outcome : Type 0 where
   too_much : Outcome
   too_far : Outcome
 
-answer : Outcome → Selected
-answer (best x count v) = Chosen (record { slots = x; count = count; words = record { 0 = v } })
-answer too_much = Refused TooMuch
-answer too_far = Refused TooFar
+answer : Outcome → Result Grant Refusal
+answer (best x count v) = Ok (record { slots = x; count = count; words = record { 0 = v } })
+answer too_much = Err TooMuch
+answer too_far = Err TooFar
 
 data Example : Type 0 where
   frees : (N : ℕ) (rows : List (List ℕ)) (path : List ℕ) (set : ℕ) → Example

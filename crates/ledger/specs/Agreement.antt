@@ -88,12 +88,12 @@ module _ (chip : Chip) (t t' : List ℕ) (n : ℕ) (list : List Record) (f : ℕ
 
   -- a flow is opened: its old record claimed nothing, and the new one claims cells that were 0
   pub open_agree : (r : Record) → claiming (flow list f).state ≡ false → claiming r.state ≡ true → Own chip r.state r
-      → ((c j : ℕ) → claims chip r.path r.len r.slots c j ≡ true → cell t c j ≡ 0)
-      → Stamped chip r.path r.len r.slots (f + 1) t t' → Agree chip t' n (set list f r)
+      → ((c j : ℕ) → claims chip r.path.entries r.path.len r.slots c j ≡ true → cell t c j ≡ 0)
+      → Stamped chip r.path.entries r.path.len r.slots (f + 1) t t' → Agree chip t' n (set list f r)
   open_agree r shut open-now own free stamped =
       replaced_agree r own (λ c j e q. free c j (sym (takes_claims chip r c j open-now) ∙ e)) mine
       (λ c j hc hj e.
-      untouched chip r.path r.len r.slots (f + 1) t t' stamped c j (omega (arith, tabled.long)) hj (sym (takes_claims chip r c j open-now) ∙ e)
+      untouched chip r.path.entries r.path.len r.slots (f + 1) t t' stamped c j (omega (arith, tabled.long)) hj (sym (takes_claims chip r c j open-now) ∙ e)
       ∙ ap (λ b. cond b 0 (cell t c j)) (sym (takes_none chip (flow list f) c j shut)))
     where
       mine : (c j : ℕ) → takes chip r c j ≡ true → cell t' c j ≡ f + 1
@@ -104,7 +104,7 @@ module _ (chip : Chip) (t t' : List ℕ) (n : ℕ) (list : List Record) (f : ℕ
 
   -- a flow is closed: its cells are cleared
   pub close_agree : claiming (flow list f).state ≡ true
-      → Stamped chip (flow list f).path (flow list f).len (flow list f).slots 0 t t' → Agree chip t' n (set list f closed_record)
+      → Stamped chip (flow list f).path.entries (flow list f).path.len (flow list f).slots 0 t t' → Agree chip t' n (set list f closed_record)
   close_agree open-now stamped =
       replaced_agree closed_record (closed_own chip) (λ c j e. absurd (not_both e (idle c j))) (λ c j e. absurd (not_both e (idle c j)))
       (λ c j hc hj e.

@@ -89,7 +89,7 @@ module _ (chip : Chip) (path : List ℕ) (m x c j : ℕ) where
 -- ---- what a record claims
 
 module _ (chip : Chip) (r : Record) (c j : ℕ) where
-  pub takes_claims : claiming r.state ≡ true → takes chip r c j ≡ claims chip r.path r.len r.slots c j
+  pub takes_claims : claiming r.state ≡ true → takes chip r c j ≡ claims chip r.path.entries r.path.len r.slots c j
   unfolding takes
   takes_claims e = rw e
 
@@ -101,10 +101,10 @@ module _ (chip : Chip) (r : Record) (c j : ℕ) where
   unfolding takes Own claiming
   takes_inside n1 own e = go r.state own (and_true _ _ e)
     where
-      go : (s : State) → Own chip s r → (claiming s ≡ true) × (claims chip r.path r.len r.slots c j ≡ true)
+      go : (s : State) → Own chip s r → (claiming s ≡ true) × (claims chip r.path.entries r.path.len r.slots c j ≡ true)
           → (c < chip.channels) × (j < chip.wheel.n)
       go Closed own e = absurd (not_both e.0 refl)
-      go (Open d) own e = claim_inside chip r.path r.len r.slots c j n1 own.inside e.1
+      go (Open d) own e = claim_inside chip r.path.entries r.path.len r.slots c j n1 own.inside e.1
 
 -- ---- free slots
 

@@ -55,18 +55,18 @@ module _ (chip : Chip) (t : List ℕ) (n : ℕ) (disagree : Type 0) (s : State) 
       let rest = passes_back (way_lines chip call v) _ (passes_back (checked chip t n disagree) _ p) in
       in_list n call.flow (passed (flow_lines n call.flow then state_lines chip t s call v) 8 rest)
 
-  pub saw : (d : Demand) → Passes (order_of chip t n disagree s call (ToOpen d)) → Admitted chip n s call.path call.len call.flow d
+  pub saw : (d : Demand) → Passes (order_of chip t n disagree s call (ToOpen d)) → Admitted chip n s call.path.entries call.path.len call.flow d
   saw d p =
       let line : (k : ℕ) → _ = λ k. passed (order_of chip t n disagree s call (ToOpen d)) k p in
       let (some, fits) = neither (line 5) in
       let (one, listed) = named (ToOpen d) p in
       let words : ¬ (d.words.0 ≡ 0) = line 11 in
-      let time : ¬ (d.deadline ≤ travel chip call.path call.len) = line 12 in
+      let time : ¬ (d.deadline ≤ travel chip call.path.entries call.path.len) = line 12 in
       record {
         some = omega (arith, some);
         fits = omega (arith, fits);
-        inside = inside_stable chip call.path call.len (line 6);
-        once = once_stable call.path call.len (line 7);
+        inside = inside_stable chip call.path.entries call.path.len (line 6);
+        once = once_stable call.path.entries call.path.len (line 7);
         one = one;
         listed = listed;
         shut = not_true_false _ (line 9);

@@ -33,7 +33,7 @@ module _ (chip : Chip) (t : List ℕ) (n : ℕ) (state : State) (path : List ℕ
         meets = rw (← allowed_alike chip m alike d.deadline) granted.best.meets;
       }
 
-  new_claims : (c j : ℕ) → claims chip (open_record path m g.slots d).path m g.slots c j ≡ claims chip path m g.slots c j
+  new_claims : (c j : ℕ) → claims chip (open_record path m g.slots d).path.entries m g.slots c j ≡ claims chip path m g.slots c j
   unfolding open_record
   new_claims c j = sym (claims_alike chip m (trimmed_alike path m admitted.fits) g.slots c j)
 
@@ -47,19 +47,19 @@ module _ (chip : Chip) (t : List ℕ) (n : ℕ) (state : State) (path : List ℕ
 
   -- marking its cells is marking those of the path asked for
   pub new_stamped : (v : ℕ) (u w : List ℕ) → Stamped chip path m g.slots v u w
-      → Stamped chip (open_record path m g.slots d).path (open_record path m g.slots d).len (open_record path m g.slots d).slots v u w
+      → Stamped chip (open_record path m g.slots d).path.entries (open_record path m g.slots d).path.len (open_record path m g.slots d).slots v u w
   unfolding open_record
   new_stamped v u w stamped =
       record { long = stamped.long; at = λ c j h k. stamped.at c j h k ∙ ap (λ b. cond b v (cell u c j)) (sym (new_claims c j)) }
 
   pub old_stamped : (v : ℕ) (u w : List ℕ)
-      → Stamped chip (open_record path m g.slots d).path (open_record path m g.slots d).len (open_record path m g.slots d).slots v u w
+      → Stamped chip (open_record path m g.slots d).path.entries (open_record path m g.slots d).path.len (open_record path m g.slots d).slots v u w
       → Stamped chip path m g.slots v u w
   unfolding open_record
   old_stamped v u w stamped =
       record { long = stamped.long; at = λ c j h k. stamped.at c j h k ∙ ap (λ b. cond b v (cell u c j)) (new_claims c j) }
 
-  pub new_free : (c j : ℕ) → claims chip (open_record path m g.slots d).path
-      (open_record path m g.slots d).len (open_record path m g.slots d).slots c j ≡ true → cell t c j ≡ 0
+  pub new_free : (c j : ℕ) → claims chip (open_record path m g.slots d).path.entries
+      (open_record path m g.slots d).path.len (open_record path m g.slots d).slots c j ≡ true → cell t c j ≡ 0
   unfolding open_record
   new_free c j e = chosen_free chip t path m g.slots c j granted.best.within (sym (new_claims c j) ∙ e)

@@ -36,11 +36,11 @@ used_cells t = sum (λ i. used (get_or t i 0)) 0 (length t)
 
 -- ---- the cells of one record
 
-pub cells_most : (w : Wheel) (r : Record) → w.n ≤ 64 → r.len ≤ 16 → cells_of w r ≤ 1024
+pub cells_most : (w : Wheel) (r : Record) → w.n ≤ 64 → r.path.len ≤ 16 → cells_of w r ≤ 1024
 unfolding cells_of
 cells_most w r n64 fits = go (claiming r.state)
   where
-    go : (b : Bool) → cond b (size w.n r.slots * r.len) 0 ≤ 1024
+    go : (b : Bool) → cond b (size w.n r.slots * r.path.len) 0 ≤ 1024
     go true = mul-le-mul (le_trans (size_most w.n r.slots) n64) fits
     go false = omega arith
 
@@ -102,10 +102,10 @@ module _ (chip : Chip) (legal : Legal chip.wheel) where
   cells_claimed r own = go r.state own
     where
       go : (s : State) → Own chip s r
-          → sum (λ c. sum (λ j. bit (claiming s && claims chip r.path r.len r.slots c j)) 0 chip.wheel.n) 0 chip.channels
-          ≡ cond (claiming s) (size chip.wheel.n r.slots * r.len) 0
+          → sum (λ c. sum (λ j. bit (claiming s && claims chip r.path.entries r.path.len r.slots c j)) 0 chip.wheel.n) 0 chip.channels
+          ≡ cond (claiming s) (size chip.wheel.n r.slots * r.path.len) 0
       go Closed own = sum_zero _ chip.channels (λ c h. sum_zero _ N (λ j k. refl))
-      go (Open d) own = path_claims r.path r.len r.slots own.inside own.once
+      go (Open d) own = path_claims r.path.entries r.path.len r.slots own.inside own.once
 
 -- ---- the cells of all records
 

@@ -1,15 +1,11 @@
 -- A bound that needs no table. Every header brings at most P slots, the first one no more than the free run at the start,
 -- and every header but the first is needed for a gap of at most L; so k slots pay at least a certain number of headers and
 -- cannot deliver more than what these leave. Starts that cannot win are passed over by this bound.
-use Rattle.std.specs.Prelude.{◌≡◌, refl, Bool, cond, ◌⊎◌, length}
-use Rattle.std.proofs.Math.Path.{ap}
-use Rattle.std.proofs.Common.{◌∙◌, inl, inr, mul-le-mul_right, div-lt_iff_lt-mul}
-use Rattle.std.proofs.Math.Bool.{true, false}
-use mathlib.Core.List.{List, [], ◌∷◌}
-use Prim.Native.Nat.{ℕ, zero, suc, ◌+◌, ◌-◌, ◌*◌, ◌/◌, ◌≤◌, ◌<◌, min}
-use native.Mathlib.Omega.{arith}
-use Rattle.std.proofs.Math.Nat.{mod-lt}
+use Rattle.std.specs.Prelude.{◌≡◌, refl, Bool, cond, ◌⊎◌, length, true, false, List, [], ◌∷◌, ℕ, zero, suc, ◌+◌, ◌-◌, ◌*◌, ◌/◌, ◌%◌, ◌≤◌, ◌<◌, min}
+use Rattle.std.proofs.Common.{◌∙◌, inl, inr, mul-le-mul_right, div-lt_iff_lt-mul, ap, arith, mod-lt}
 use Rattle.rules.specs.Sets.{stretch}
+use Rattle.std.proofs.lemmas.Grind.{div_ceil_times}
+use Rattle.laws.specs.Logic.{le_or_lt}
 use Rattle.laws.specs.Counting.{stretch_stops}
 use Rattle.laws.specs.Reading.{flags, count, gain, next, next_case, line_words}
 use Rattle.laws.specs.Runs.{line}
@@ -185,7 +181,8 @@ module _ (t : Task) (good : Sound t) where
 pub none_paid : (t : Task) → Sound t → {f k v : ℕ} → (L t < 2) × (k < N t) → Paid t f k v → ⊥
 none_paid t good (l, h) z =
     let one : L t ≡ 1 = omega (arith, good.l1) in
-    omega (arith, rw one at z.gaps)
+    let none : z.c * (L t - 1) ≡ z.c * (1 - 1) = ap (λ i. z.c * (i - 1)) one in
+    omega (arith, none, z.gaps)
 
 -- at least c headers are paid: so much is left at most
 pub most_left : (t : Task) (f k c : ℕ) → ((d : ℕ) → k + (P t - f) ≤ d * P t → N t ≤ k + d * (L t - 1) → c ≤ d) → (v : ℕ) → Paid t f k v
@@ -195,8 +192,18 @@ most_left t f k c h v z =
     omega (arith, z.words)
 
 -- a / b, rounded up, is the least c with a ≤ c * b
-pub ceil_least : (a b : ℕ) → 1 ≤ b → (c : ℕ) → a ≤ c * b → (a + b - 1) / b ≤ c
-ceil_least a b h c e =
+pub ceil_least : (a b c r : ℕ) → r ≡ a / b + min 1 (a % b) → 1 ≤ b → a ≤ c * b → r ≤ c
+ceil_least a b c r e h l = go (le_or_lt r c)
+  where
+    go : (r ≤ c) ⊎ (c < r) → r ≤ c
+    go (inl d) = d
+    go (inr d) =
+        let more : (c + 1) * b ≤ r * b = mul-le-mul_right b (omega arith) in
+        omega (arith, div_ceil_times a b h, ap (λ i. i * b) e)
+
+-- and so is the quotient as rule 2 writes it
+pub ceil_least_sum : (a b : ℕ) → 1 ≤ b → (c : ℕ) → a ≤ c * b → (a + b - 1) / b ≤ c
+ceil_least_sum a b h c e =
     let q : a + b - 1 < suc c * b = omega arith in
     let r = (div-lt_iff_lt-mul {k = b} {x = a + b - 1} {y = suc c} h).1 q in
     omega arith

@@ -1,15 +1,9 @@
 -- The greedy choice by packets, as the code rebuilds it from the tables. Where a packet begins, the choice goes on through
 -- it to the next packet if that attains the value, and otherwise ends after the longest packet that does; the next packet
 -- then begins at the first position whose head attains what is left.
-use Rattle.std.specs.Prelude.{◌≡◌, refl, Bool, true, cond, List, [], ◌∷◌, ◌⊎◌}
-use Rattle.std.proofs.Common.{sym, ◌∙◌, subst, ⊎_elim, add-zero}
-use Rattle.std.proofs.Math.Path.{ap, ap₂}
-use Rattle.std.proofs.Math.Bool.{false}
-use Rattle.std.proofs.Math.Logic.{inl, inr}
-use Prim.Native.Nat.{ℕ, zero, suc, pred, ◌+◌, ◌-◌, ◌*◌, ◌%◌, ◌^◌, ◌≤◌, ◌<◌, max, min}
-use native.Mathlib.Omega.{arith}
-use Rattle.std.proofs.Math.Nat.{mod-eq_of_lt, mod_self, mul-le-mul_right}
-use Rattle.std.proofs.Math.Numerals.{add-one}
+use Rattle.std.specs.Prelude.{◌≡◌, refl, Bool, true, cond, List, [], ◌∷◌, ◌⊎◌, false, ℕ, zero, suc, pred, ◌+◌, ◌-◌, ◌*◌, ◌%◌, ◌^◌, ◌≤◌, ◌<◌, max, min}
+use Rattle.std.proofs.Common.{sym, ◌∙◌, subst, ⊎_elim, add-zero, ap, ap₂, inl, inr, arith, mod-eq_of_lt, mul-le-mul_right, add-one}
+use Rattle.std.proofs.Math.Nat.{mod_self}
 use Rattle.std.proofs.lemmas.Bool.{lt-leb}
 use Rattle.laws.specs.Logic.{le_or_lt}
 use Rattle.laws.specs.Reading.{next}

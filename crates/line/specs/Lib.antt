@@ -1,3 +1,4 @@
+pub mod Asked
 pub mod Values
 pub mod Packets
 pub mod Tables

@@ -1,16 +1,10 @@
 -- The linear problem by packets. At a start the wheel is a line of N positions of which the last stays shut; a run of chosen
 -- slots is a sequence of packets of at most P slots with a header each. So a best choice is known from two tables: `head`,
 -- where a packet begins at a position, and `tail`, where a run has ended just before one.
-use Rattle.std.specs.Prelude.{◌≡◌, Bool, true, false, ◌&&◌, ◌⊎◌, leb, ltb}
-use Rattle.std.proofs.Math.Path.{refl, sym, ap, ap₂}
-use Rattle.std.proofs.Common.{◌∙◌, inl, inr}
-use mathlib.Core.List.{List, [], ◌∷◌}
-use Prim.Native.Nat.{ℕ, zero, suc, pred, ◌+◌, ◌-◌, ◌*◌, ◌%◌, ◌≤◌, ◌<◌, max}
-use native.Mathlib.Omega.{arith}
-use Rattle.std.proofs.Math.Nat.{mod-eq_of_lt, mod_self, max-eq_left, max-eq_right, max_comm, mul-le-mul_right}
-use Rattle.std.proofs.Math.Numerals.{add-one}
-use Rattle.std.proofs.Math.ListN.{length}
-use borrow.Author.Tests.{lt-ltb, le-ltb, lt-leb}
+use Rattle.std.specs.Prelude.{◌≡◌, Bool, true, false, ◌&&◌, ◌⊎◌, leb, ltb, refl, List, [], ◌∷◌, ℕ, zero, suc, pred, ◌+◌, ◌-◌, ◌*◌, ◌%◌, ◌≤◌, ◌<◌, max, length}
+use Rattle.std.proofs.Common.{◌∙◌, inl, inr, sym, ap, ap₂, arith, mod-eq_of_lt, mul-le-mul_right, add-one, lt-ltb, le-ltb}
+use Rattle.std.proofs.Math.Nat.{mod_self, max-eq_left, max-eq_right, max_comm}
+use Rattle.std.proofs.lemmas.Bool.{lt-leb}
 use Rattle.rules.specs.Wheels.{chosen}
 use Rattle.laws.specs.Logic.{not_both, le_or_lt}
 use Rattle.laws.specs.Reading.{flags, gain, next}

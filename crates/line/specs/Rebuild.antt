@@ -1,7 +1,7 @@
 -- One packet of the rebuilding. `left` is what is still to be added to the set; each packet moves its run of slots from
 -- there into the set, so that the set and what is left add up to the greedy choice at every step.
-use Rattle.std.specs.Prelude.{◌≡◌, refl, Bool, true, false, List, ◌⊎◌, ℕ, zero, suc, ◌+◌, ◌-◌, ◌*◌, ◌%◌, ◌^◌, ◌≤◌, ◌<◌, min, get_or}
-use Rattle.std.proofs.Common.{sym, ap, ◌∙◌, subst, inl, inr, arith, add-zero}
+use Rattle.std.specs.Prelude.{◌≡◌, refl, Bool, true, false, nat_eq, List, ◌⊎◌, ℕ, zero, suc, ◌+◌, ◌-◌, ◌*◌, ◌%◌, ◌^◌, ◌≤◌, ◌<◌, min, max, get_or, Option, Some, None}
+use Rattle.std.proofs.Common.{sym, ap, ◌∙◌, subst, inl, inr, arith, add-zero, below_more, eqb-true, false-eqb}
 use Rattle.laws.specs.Logic.{le_or_lt}
 use Rattle.line.specs.declared.Task.{Task}
 use Rattle.line.specs.Values.{N, S, P, raised, greedy}
@@ -50,17 +50,33 @@ pub data Goes (P f k J v : ℕ) : Bool → Type 0 where
   short : k ≤ P → Goes P f k J v false
   less : P < f → P < k → (J ≡ v → ⊥) → Goes P f k J v false
 
--- q is the longest packet of at most m slots that comes to v with the tail after it; 0 where there is none
+-- the answer of the test, where the run is long enough and there are slots enough
+pub goes_if : (P f k J v w : ℕ) → P < f → P < k → w ≡ J → (b : Bool) → nat_eq w v ≡ b → Goes P f k J v b
+goes_if _ _ _ _ v w a b e true q = on a b (sym e ∙ eqb-true w v q)
+goes_if _ _ _ _ v w a b e false q = less a b (λ z. false-eqb w v (sym q) (e ∙ z))
+
+-- q is the longest packet of at most m slots that comes to v with the tail after it
 pub record Longest (t : Task) (p k m v : ℕ) (tl : List ℕ) (q : ℕ) : Type 0 where
+  pub low : 1 ≤ q
   pub high : q ≤ m
-  pub here : 1 ≤ q → raised (packet_words t q) (entry tl (p + q - 1) (k - q)) ≡ v
+  pub here : raised (packet_words t q) (entry tl (p + q - 1) (k - q)) ≡ v
   pub past : (j : ℕ) → q < j → j ≤ m → raised (packet_words t j) (entry tl (p + j - 1) (k - j)) ≡ v → ⊥
+
+-- the longest, if there is one
+abbrev pub LongestIf : Task → ℕ → ℕ → ℕ → ℕ → List ℕ → Option ℕ → Type 0
+LongestIf t p k m v tl None = (j : ℕ) → 1 ≤ j → j ≤ m → raised (packet_words t j) (entry tl (p + j - 1) (k - j)) ≡ v → ⊥
+LongestIf t p k m v tl (Some q) = Longest t p k m v tl q
 
 -- r is the first position from `from` on whose entry of k slots is w; one from `end` on where there is none before
 pub record NextHead (hd : List ℕ) (k from end w r : ℕ) : Type 0 where
   pub low : from ≤ r
   pub miss : (x : ℕ) → from ≤ x → x < r → entry hd x k ≡ w → ⊥
   pub hit : r < end → entry hd r k ≡ w
+
+-- the first one before `end`, if there is one
+abbrev pub NextHeadIf : List ℕ → ℕ → ℕ → ℕ → ℕ → Option ℕ → Type 0
+NextHeadIf hd k from end w None = (x : ℕ) → from ≤ x → x < end → entry hd x k ≡ w → ⊥
+NextHeadIf hd k from end w (Some r) = (r < end) × NextHead hd k from end w r
 
 -- the rebuilding stands at position p with k slots to take: f slots are open, and v is to be attained
 pub record Standing (t : Task) (s K : ℕ) (hd tl : List ℕ) (p k f v : ℕ) : Type 0 where
@@ -138,20 +154,13 @@ module _ (t : Task) (good : Sound t) (s K : ℕ) (hd tl : List ℕ) (p k f v : �
   peak : (E q : ℕ) (c : Chain (mid t s p k) (pack_end t s p k) top E) → (E ≡ v → ⊥) → Longest t p k top v tl q → Peak c v q
   peak E q c ne l =
       record {
-        low = q1;
+        low = l.low;
         high = l.high;
         top = mid_v;
-        here = sym (entry_is q q1 l.high) ∙ l.here q1;
-        past = λ j a b e. l.past j a b (entry_is j (omega arith) b ∙ e);
+        here = sym (entry_is q l.low l.high) ∙ l.here;
+        past = λ j a b e. l.past j a b (entry_is j (omega (arith, l.low)) b ∙ e);
         end = ne;
       }
-    where
-      q1 : 1 ≤ q
-      q1 = go q refl
-        where
-          go : (x : ℕ) → q ≡ x → 1 ≤ q
-          go zero e = absurd (some_part c v mid_v ne (λ j a b d. l.past j (omega arith) b (entry_is j a b ∙ d)))
-          go (suc x) e = omega arith
 
   zero_less : 0 ≡ v → ⊥
   zero_less e = omega (arith, some_v)
@@ -160,52 +169,56 @@ module _ (t : Task) (good : Sound t) (s K : ℕ) (hd tl : List ℕ) (p k f v : �
   abbrev rest : ℕ → ℕ
   rest q = bits_of t s (p + q + 1) (greedy t (ahead t s (p + q + 1)) 2 0 (k - q))
 
-  short_end : (q : ℕ) → (f ≤ P t) ⊎ (k ≤ P t) → Longest t p k top v tl q → (1 ≤ q) × (left t s p k ≡ bits_run t s p q + rest q)
+  short_end : (q : ℕ) → (f ≤ P t) ⊎ (k ≤ P t) → Longest t p k top v tl q → left t s p k ≡ bits_run t s p q + rest q
   short_end q a l =
       let c = peak 0 q (chain_short t good s p k f z.k1 z.run f1 z.within a) zero_less l in
-      (c.low, left_some t s p k z.k1 ∙ packet_stop_short t good s p k f z.k1 z.run f1 z.within v some_v q a c)
+      left_some t s p k z.k1 ∙ packet_stop_short t good s p k f z.k1 z.run f1 z.within v some_v q a c
 
-  ends : (q : ℕ) → Goes (P t) f k J v false → Longest t p k top v tl q → (1 ≤ q) × (left t s p k ≡ bits_run t s p q + rest q)
+  ends : (q : ℕ) → Goes (P t) f k J v false → Longest t p k top v tl q → left t s p k ≡ bits_run t s p q + rest q
   ends q (few a) l = short_end q (inl a) l
   ends q (short a) l = short_end q (inr a) l
   ends q (less a b ne) l =
       let c = peak _ q (chain_long t good s p k f z.k1 z.run f1 z.within a b) (λ e. ne (J-is a b ∙ e)) l in
-      (c.low, left_some t s p k z.k1 ∙ packet_stop_long t good s p k f z.k1 z.run f1 z.within v some_v q a b c)
+      left_some t s p k z.k1 ∙ packet_stop_long t good s p k f z.k1 z.run f1 z.within v some_v q a b c
+
+  -- a packet of some length comes to v
+  some_packet : Goes (P t) f k J v false → LongestIf t p k top v tl None → ⊥
+  some_packet (few a) l = some_part (chain_short t good s p k f z.k1 z.run f1 z.within (inl a)) v mid_v zero_less λ j a b d. l j a b (entry_is j a b ∙ d)
+  some_packet (short a) l = some_part (chain_short t good s p k f z.k1 z.run f1 z.within (inr a)) v mid_v zero_less λ j a b d. l j a b (entry_is j a b ∙ d)
+  some_packet (less a b ne) l =
+      some_part (chain_long t good s p k f z.k1 z.run f1 z.within a b) v mid_v (λ e. ne (J-is a b ∙ e)) λ j a b d. l j a b (entry_is j a b ∙ d)
 
   module _ (q : ℕ) (g : Goes (P t) f k J v false) (l : Longest t p k top v tl q) where
-    q1 : 1 ≤ q
-    q1 = (ends q g l).0
-
     ends_all : k ≡ q → left t s p k ≡ bits_run t s p q
     ends_all e =
         let none : k - q ≡ 0 = omega arith in
-        (ends q g l).1 ∙ ap (λ i. bits_run t s p q + bits_of t s (p + q + 1) (greedy t (ahead t s (p + q + 1)) 2 0 i)) none
+        ends q g l ∙ ap (λ i. bits_run t s p q + bits_of t s (p + q + 1) (greedy t (ahead t s (p + q + 1)) 2 0 i)) none
         ∙ omega (arith, gap_none t s (ahead t s (p + q + 1)) (p + q + 1) 2 0)
 
     module _ (r w : ℕ) (lt : q < k) (ew : w ≡ entry tl (p + q - 1) (k - q)) (nx : NextHead hd (k - q) (p + q + 1) (N t - 1) w r) where
       some_w : 0 < w
-      some_w = raised_positive (packet_words t q) w v (ap (raised (packet_words t q)) ew ∙ l.here q1) some_v
+      some_w = raised_positive (packet_words t q) w v (ap (raised (packet_words t q)) ew ∙ l.here) some_v
 
       tail_w : tail t s (p + q - 1) (k - q) ≡ w
-      tail_w = sym (ew ∙ z.solved.tails.at (p + q - 1) (k - q) (omega arith) (omega (arith, l.high, q1, z.within)) (omega (arith, z.kk)))
+      tail_w = sym (ew ∙ z.solved.tails.at (p + q - 1) (k - q) (omega arith) (omega (arith, l.high, l.low, z.within)) (omega (arith, z.kk)))
 
       missed : (x : ℕ) → p + q - 1 + 2 ≤ x → x < r → head t s x (k - q) ≡ w → ⊥
       missed x a b e = go (le_or_lt (N t) (x + 1))
         where
           go : (N t ≤ x + 1) ⊎ (x + 1 < N t) → ⊥
           go (inl c) = omega (arith, head_shut t s x (k - q) (opens_last t s x c), some_w)
-          go (inr c) = nx.miss x (omega (arith, q1)) b (z.solved.heads.at x (k - q) (omega arith) c (omega (arith, z.kk)) ∙ e)
+          go (inr c) = nx.miss x (omega (arith, l.low)) b (z.solved.heads.at x (k - q) (omega arith) c (omega (arith, z.kk)) ∙ e)
 
       found : (r + 1 < N t) × (bits_of t s (p + q - 1 + 2) (greedy t (ahead t s (p + q - 1 + 2)) 2 0 (k - q)) ≡ bits_of t s r (begun t s r (k - q)))
       found =
-          gap_next t s (p + q - 1) (k - q) w (omega arith) some_w r tail_w (omega (arith, q1, nx.low)) missed
+          gap_next t s (p + q - 1) (k - q) w (omega arith) some_w r tail_w (omega (arith, l.low, nx.low)) missed
           (λ h. sym (z.solved.heads.at r (k - q) (omega arith) h (omega (arith, z.kk))) ∙ nx.hit (omega arith))
 
       goes_next : left t s p k ≡ bits_run t s p q + left t s r (k - q)
       goes_next =
-          let i : p + q - 1 + 2 ≡ p + q + 1 = omega (arith, q1) in
+          let i : p + q - 1 + 2 ≡ p + q + 1 = omega (arith, l.low) in
           let e = rw i at found.1 in
-          (ends q g l).1 ∙ ap (λ x. bits_run t s p q + x) (e ∙ sym (left_some t s r (k - q) (omega arith)))
+          ends q g l ∙ ap (λ x. bits_run t s p q + x) (e ∙ sym (left_some t s r (k - q) (omega arith)))
 
       due_next : Due t s r (k - q)
       due_next =
@@ -219,14 +232,28 @@ module _ (t : Task) (good : Sound t) (s K : ℕ) (hd tl : List ℕ) (p k f v : �
                 );
           }
 
+    -- the next packet begins somewhere
+    some_next : (w : ℕ) → q < k → w ≡ entry tl (p + q - 1) (k - q) → NextHeadIf hd (k - q) (p + q + 1) (N t - 1) w None → ⊥
+    some_next w lt ew none =
+        let past = found (max (p + q + 1) (N t - 1)) w lt ew (record {
+          low = omega arith;
+          miss = λ x a b. none x a (omega arith);
+          hit = λ h. absurd (omega arith);
+        }) in
+        omega (arith, past.0)
+
   pub record Off (q : ℕ) : Type 0 where
     pub low : 1 ≤ q
     pub le : q ≤ k
     pub fits : q ≤ f
     pub part : bits_run t s p q ≤ left t s p k
     pub end : k ≡ q → left t s p k ≡ bits_run t s p q
+    pub some : (w : ℕ) → q < k → w ≡ entry tl (p + q - 1) (k - q) → NextHeadIf hd (k - q) (p + q + 1) (N t - 1) w None → ⊥
     pub next : (r w : ℕ) → q < k → w ≡ entry tl (p + q - 1) (k - q) → NextHead hd (k - q) (p + q + 1) (N t - 1) w r
         → (left t s p k ≡ bits_run t s p q + left t s r (k - q)) × Due t s r (k - q)
+
+  pub standing_some : (b : Bool) → Goes (P t) f k J v b → b ≡ false → (m : ℕ) → m ≡ top → LongestIf t p k m v tl None → ⊥
+  standing_some b g e m em l = some_packet (subst (Goes (P t) f k J v) e g) (subst (λ i. LongestIf t p k i v tl None) em l)
 
   pub standing_off : (b : Bool) → Goes (P t) f k J v b → b ≡ false → (m q : ℕ) → m ≡ top → Longest t p k m v tl q → Off q
   standing_off b g e m q em l = go (subst (Goes (P t) f k J v) e g) (subst (λ i. Longest t p k i v tl q) em l)
@@ -234,11 +261,12 @@ module _ (t : Task) (good : Sound t) (s K : ℕ) (hd tl : List ℕ) (p k f v : �
       go : Goes (P t) f k J v false → Longest t p k top v tl q → Off q
       go g l =
           record {
-            low = q1 q g l;
+            low = l.low;
             le = omega (arith, l.high);
             fits = omega (arith, l.high);
-            part = omega (arith, (ends q g l).1);
+            part = omega (arith, ends q g l);
             end = ends_all q g l;
+            some = some_next q g l;
             next = λ r w a c d. (goes_next q g l r w a c d, due_next q g l r w a c d);
           }
 
@@ -275,21 +303,16 @@ run_end t s d m i h =
     let e : m - i ≡ 0 = omega arith in
     rw e
 
--- one standing more at which A holds, going down and going up
-pub above_more : (A : ℕ → Type 0) (q m : ℕ) → 0 < q → A q → ((j : ℕ) → q < j → j ≤ m → A j) → (j : ℕ) → q - 1 < j → j ≤ m → A j
-above_more A q m h a f j l r = go (le_or_lt j q)
+-- one standing more at which A holds, going down
+pub above_more : (A : ℕ → Type 0) (q m : ℕ) → 0 < q → A (q - 1) → ((j : ℕ) → q ≤ j → j ≤ m → A j) → (j : ℕ) → q - 1 ≤ j → j ≤ m → A j
+above_more A q m h a f j l r = go (le_or_lt q j)
   where
-    go : (j ≤ q) ⊎ (q < j) → A j
-    go (inl e) =
-        let c : j ≡ q = omega arith in
+    go : (q ≤ j) ⊎ (j < q) → A j
+    go (inl e) = f j e r
+    go (inr e) =
+        let c : j ≡ q - 1 = omega arith in
         rw c a
-    go (inr e) = f j e r
 
+-- and going up
 pub between_more : (A : ℕ → Type 0) (from p : ℕ) → ((x : ℕ) → from ≤ x → x < p → A x) → A p → (x : ℕ) → from ≤ x → x < p + 1 → A x
-between_more A from p f a x l r = go (le_or_lt p x)
-  where
-    go : (p ≤ x) ⊎ (x < p) → A x
-    go (inl e) =
-        let c : x ≡ p = omega arith in
-        rw c a
-    go (inr e) = f x l e
+between_more A from p f a x l r = below_more (λ x. from ≤ x → A x) p (λ x r l. f x l r) (λ l. a) x r l

@@ -1,12 +1,11 @@
 -- How the tables are filled: from the last position to the first, first the row of tails and then the row of heads.
 -- The function of one row does not know at which start the wheel is cut, and need not: what it computes is right for
 -- every start whose tables the later rows hold.
-use Rattle.std.specs.Prelude.{◌≡◌, refl, Bool, true, false, cond, List, ◌⊎◌, leb, get_or, length, set}
-use Rattle.std.proofs.Math.Path.{sym}
-use Rattle.std.proofs.Common.{ap, ap₂, ◌∙◌, subst, inl, inr, ⊎_elim, add-zero, mul-le-mul_right, eq-or-lt_of_le, length-set, get_or-set_same, get_or-set_other}
-use Prim.Native.Nat.{ℕ, zero, suc, ◌+◌, ◌-◌, ◌*◌, ◌≤◌, ◌<◌, max, min}
-use native.Mathlib.Omega.{arith}
+use Rattle.std.specs.Prelude.{◌≡◌, refl, Bool, true, false, cond, List, ◌++◌, ◌⊎◌, leb, get_or, length, set, take, drop, ℕ, zero, suc, ◌+◌, ◌-◌, ◌*◌, ◌≤◌, ◌<◌, max, min}
+use Rattle.std.proofs.Common.{rules, ap, ap₂, ◌∙◌, subst, inl, inr, ⊎_elim, add-zero, below_more, mul-le-mul_right, eq-or-lt_of_le, length-set, get_or-set_same, get_or-set_other, sym, arith}
 use Rattle.std.proofs.Math.Nat.{max_comm}
+use Rattle.std.proofs.Math.ListN.{get_or-append}
+use Rattle.std.proofs.lemmas.List.{places, get_or-take, get_or-drop, get_or-append_right}
 use Rattle.laws.specs.Logic.{le_or_lt}
 use Rattle.line.specs.declared.Task.{Task}
 use Rattle.line.specs.Values.{N, S, P, L, or_none, raised, raised_none}
@@ -22,13 +21,17 @@ pub record Filled (old new : List ℕ) (base j : ℕ) (e : ℕ → ℕ) : Type 0
   pub above : (i : ℕ) → base + j ≤ i → get_or new i 0 ≡ get_or old i 0
   pub long : length new ≡ length old
 
--- the m entries from `at` on become the better of those of hd from `by` on and their own from `from` on
-abbrev pub Lifted : List ℕ → List ℕ → ℕ → ℕ → List ℕ → ℕ → ℕ → Type 0
-Lifted old new at m hd by from = Filled old new at m (λ i. max (get_or hd (by + i) 0) (get_or old (from + i) 0))
+-- a row becomes the better of heads and tails, entry by entry
+abbrev pub Picked : List ℕ → List ℕ → List ℕ → Type 0
+Picked new hd tl = (i : ℕ) → i < length new → get_or new i 0 ≡ max (get_or hd i 0) (get_or tl i 0)
 
--- they become at least those of tl from `by` on with `words` more on top
-abbrev pub Raised : List ℕ → List ℕ → ℕ → ℕ → List ℕ → ℕ → ℕ → Type 0
-Raised old new at m tl by words = Filled old new at m (λ i. max (get_or old (at + i) 0) (raised words (get_or tl (by + i) 0)))
+-- a row becomes at least other values
+abbrev pub RowLifted : List ℕ → List ℕ → List ℕ → Type 0
+RowLifted old new vs = (i : ℕ) → i < length new → get_or new i 0 ≡ max (get_or vs i 0) (get_or old i 0)
+
+-- a row becomes at least other values with `words` more on top
+abbrev pub RowRaised : List ℕ → List ℕ → List ℕ → ℕ → Type 0
+RowRaised old new vs words = (i : ℕ) → i < length new → get_or new i 0 ≡ max (get_or old i 0) (raised words (get_or vs i 0))
 
 pub filled_none : (old : List ℕ) (base : ℕ) (e : ℕ → ℕ) → Filled old old base 0 e
 filled_none old base e = record { row = λ i h. absurd (omega arith); below = λ i h. refl; above = λ i h. refl; long = refl }
@@ -37,17 +40,13 @@ pub filled_more : (old new : List ℕ) (base j v : ℕ) (e : ℕ → ℕ) → Fi
     → v ≡ e j → Filled old (set new (base + j) v) base (j + 1) e
 filled_more old new base j v e h b q =
     record {
-      row = λ i d. row i (eq-or-lt_of_le d);
+      row = below_more (λ i. get_or (set new (base + j) v) (base + i) 0 ≡ e i) j
+          (λ i d. get_or-set_other new (base + j) (base + i) v 0 (omega arith) ∙ h.row i d)
+          (get_or-set_same new (base + j) v 0 (omega (arith, h.long)) ∙ q);
       below = λ i d. get_or-set_other new (base + j) i v 0 (omega arith) ∙ h.below i d;
       above = λ i d. get_or-set_other new (base + j) i v 0 (omega arith) ∙ h.above i (omega arith);
       long = simp length-set h.long;
     }
-  where
-    row : (i : ℕ) → (suc i ≡ j + 1) ⊎ (suc i < j + 1) → get_or (set new (base + j) v) (base + i) 0 ≡ e i
-    row i (inl d) =
-        let c : i ≡ j = omega arith in
-        rw c (get_or-set_same new (base + j) v 0 (omega (arith, h.long)) ∙ q)
-    row i (inr d) = get_or-set_other new (base + j) (base + i) v 0 (omega arith) ∙ h.row i (omega arith)
 
 -- the entries under another name
 pub filled_as : (old new : List ℕ) (base j : ℕ) (d e : ℕ → ℕ) → Filled old new base j d → ((i : ℕ) → i < j → d i ≡ e i) → Filled old new base j e
@@ -91,6 +90,56 @@ filled_first old new base j v d e h b first more =
     row zero l = rw (add-zero base) (get_or-set_same new base v 0 (omega (arith, h.long)) ∙ first)
     row (suc i) l = get_or-set_other new base (base + suc i) v 0 (omega arith) ∙ h.row (suc i) l ∙ more (suc i) (omega arith) (omega arith)
 
+-- entry i of a part of a table
+pub part_entry : (tb : List ℕ) (base n i : ℕ) → i < n → get_or (take n (drop base tb)) i 0 ≡ get_or tb (base + i) 0
+part_entry tb base n i h = get_or-take n (drop base tb) i 0 h ∙ get_or-drop base tb i 0
+
+-- a part of a table came back as the row ys
+pub filled_part : (old ys : List ℕ) (base j n : ℕ) (e : ℕ → ℕ) → base + j ≤ length old → n ≡ j → length ys ≡ j
+    → ((i : ℕ) → i < j → get_or ys i 0 ≡ e i) → Filled old (take base old ++ (ys ++ drop n (drop base old))) base j e
+filled_part old ys base j n e b same long h =
+    record {
+      row = λ i l. search (rules, places) ∙ h i l;
+      below = λ i l. search (rules, places);
+      above = λ i l. search (rules, places);
+      long = search (rules, places);
+    }
+
+-- a table was split, and a part of its front changed
+filled_front : (front front' back : List ℕ) (base j : ℕ) (e : ℕ → ℕ) → base + j ≤ length front → Filled front front' base j e
+    → Filled (front ++ back) (front' ++ back) base j e
+filled_front front front' back base j e b f =
+    record {
+      row = λ i l. get_or-append front' back 0 (base + i) (omega (arith, f.long)) ∙ f.row i l;
+      below = λ i l. get_or-append front' back 0 i (omega (arith, f.long)) ∙ f.below i l ∙ sym (get_or-append front back 0 i (omega arith));
+      above = λ i l. above i l (le_or_lt (length front) i);
+      long = search (rules, places, f.long);
+    }
+  where
+    above : (i : ℕ) → base + j ≤ i → (length front ≤ i) ⊎ (i < length front) → get_or (front' ++ back) i 0 ≡ get_or (front ++ back) i 0
+    above i l (inl h) =
+        get_or-append_right front' back (length front) i 0 f.long h ∙ sym (get_or-append_right front back (length front) i 0 refl h)
+    above i l (inr h) =
+        get_or-append front' back 0 i (omega (arith, f.long)) ∙ f.above i l ∙ sym (get_or-append front back 0 i h)
+
+-- and came back as the row ys
+pub filled_split : (old front back ys : List ℕ) (base j n : ℕ) (e : ℕ → ℕ) → old ≡ front ++ back → base + j ≤ length front → n ≡ j
+    → length ys ≡ j → ((i : ℕ) → i < j → get_or ys i 0 ≡ e i)
+    → Filled old ((take base front ++ (ys ++ drop n (drop base front))) ++ back) base j e
+filled_split old front back ys base j n e q b same long h =
+    subst (λ l. Filled l ((take base front ++ (ys ++ drop n (drop base front))) ++ back) base j e) (sym q)
+    (filled_front front _ back base j e b (filled_part front ys base j n e b same long h))
+
+-- rows that were picked or raised, the entries that they took in under other names
+pub picked_is : (new hd tl : List ℕ) (j : ℕ) (d e : ℕ → ℕ) → length new ≡ j → Picked new hd tl → ((k : ℕ) → k < j → get_or hd k 0 ≡ d k)
+    → ((k : ℕ) → k < j → get_or tl k 0 ≡ e k) → (k : ℕ) → k < j → get_or new k 0 ≡ max (d k) (e k)
+picked_is new hd tl j d e long up a b k l = up k (omega arith) ∙ ap₂ max (a k l) (b k l)
+
+pub raised_is : (old new vs : List ℕ) (words j : ℕ) (d e : ℕ → ℕ) → length new ≡ j → RowRaised old new vs words
+    → ((k : ℕ) → k < j → get_or old k 0 ≡ d k) → ((k : ℕ) → k < j → get_or vs k 0 ≡ e k)
+    → (k : ℕ) → k < j → get_or new k 0 ≡ max (d k) (raised words (e k))
+raised_is old new vs words j d e long up a b k l = up k (omega arith) ∙ ap₂ max (a k l) (ap (raised words) (b k l))
+
 -- the rows of later positions are as they were
 module _ (t : Task) (s K p j : ℕ) (old new : List ℕ) (e : ℕ → ℕ) (h : j ≤ 64) (f : Filled old new (p * 64) j e) where
   heads_kept : Heads t s K (p + 1) old → Heads t s K (p + 1) new
@@ -110,19 +159,27 @@ pub record TailsMore (t : Task) (cap e : ℕ) (hd old new : List ℕ) : Type 0 w
   pub filled : Filled old new (e * 64) (cap + 1) (entry new e)
   pub is : (s K k : ℕ) → cap ≤ K → Heads t s K (e + 1) hd → Tails t s K (e + 1) old → 1 ≤ k → k ≤ cap → entry new e k ≡ tail t s e k
 
--- a window of no position, and of one more
+-- a window of no position
 pub window_none : (cap e : ℕ) (hd old new : List ℕ) → Filled old new (e * 64) (cap + 1) (λ k. 0)
     → Filled new new (e * 64) (cap + 1) (λ k. most_of hd k (e + 2) (e + 2 - (e + 2)))
 window_none cap e hd old new h =
     record { row = λ k l. h.row k l ∙ sym (most_none hd k (e + 2) (e + 2) (omega arith)); below = λ i l. refl; above = λ i l. refl; long = refl }
 
-pub window_more : (cap e from p : ℕ) (hd old mid new : List ℕ) → from ≤ p
+-- and of one more, in a table
+pub window_filled : (cap e from p : ℕ) (hd old mid new : List ℕ) → from ≤ p
     → Filled old mid (e * 64) (cap + 1) (λ k. most_of hd k from (p - from))
     → Filled mid new (e * 64) (cap + 1) (λ k. max (entry hd p k) (entry mid e k))
     → Filled old new (e * 64) (cap + 1) (λ k. most_of hd k from (p + 1 - from))
-window_more cap e from p hd old mid new h a b =
+window_filled cap e from p hd old mid new h a b =
     filled_then old mid new (e * 64) (cap + 1) _ _ a
     (filled_as mid new (e * 64) (cap + 1) _ _ b (λ k l. ap (max (entry hd p k)) (a.row k l) ∙ max_comm _ _ ∙ sym (most_more hd k from p h)))
+
+-- a row of the best heads of the positions before p, with those of position p too
+pub window_more : (hd old new vs : List ℕ) (from p j : ℕ) → from ≤ p → length new ≡ j → ((k : ℕ) → k < j → get_or vs k 0 ≡ entry hd p k)
+    → ((k : ℕ) → k < j → get_or old k 0 ≡ most_of hd k from (p - from)) → RowLifted old new vs
+    → (k : ℕ) → k < j → get_or new k 0 ≡ most_of hd k from (p + 1 - from)
+window_more hd old new vs from p j h long at best up k l =
+    up k (omega arith) ∙ ap₂ max (at k l) (best k l) ∙ max_comm _ _ ∙ sym (most_more hd k from p h)
 
 module _ (t : Task) (cap e : ℕ) (hd old new : List ℕ) (e2 : e + 2 ≤ N t) where
   -- the limit cuts nothing
@@ -198,17 +255,18 @@ pub record HeadRow (t : Task) (cap m p f : ℕ) (tl old new : List ℕ) : Type 0
   pub is : (s K : ℕ) → p + f < N t → cap ≤ K → Heads t s K (p + 1) old → Tails t s K p tl → FreeRun t s p f
       → Filled old new (p * 64) m (head t s p)
 
--- packets of no slot, and of up to q
+-- packets of no slot
 pub packets_none : (t : Task) (cap p : ℕ) (tl old new : List ℕ) → Filled old new (p * 64) (cap + 1) (λ k. 0)
     → Filled new new (p * 64) (cap + 1) (λ k. pack_most t tl p k 1 (min (1 - 1) k))
 packets_none t cap p tl old new h =
     record { row = λ k l. h.row k l ∙ sym (pack_none t tl p k); below = λ i l. refl; above = λ i l. refl; long = refl }
 
-pub packets_more : (t : Task) (cap p q w : ℕ) (tl old mid new : List ℕ) → 1 ≤ q → q ≤ cap → w ≡ packet_words t q
+-- and of up to q, in a table
+pub packets_filled : (t : Task) (cap p q w : ℕ) (tl old mid new : List ℕ) → 1 ≤ q → q ≤ cap → w ≡ packet_words t q
     → Filled old mid (p * 64) (cap + 1) (λ k. pack_most t tl p k 1 (min (q - 1) k))
     → Filled mid new (p * 64 + q) (cap + 1 - q) (λ i. max (get_or mid (p * 64 + q + i) 0) (raised w (entry tl (p + q - 1) i)))
     → Filled old new (p * 64) (cap + 1) (λ k. pack_most t tl p k 1 (min (q + 1 - 1) k))
-packets_more t cap p q w tl old mid new q1 qc e a b =
+packets_filled t cap p q w tl old mid new q1 qc e a b =
     let one : q + 1 - 1 ≡ q = omega arith in
     rw one
     (filled_again old mid new (p * 64) (cap + 1) q _ _ (λ k. pack_most t tl p k 1 (min q k)) (omega arith) a b
@@ -217,6 +275,24 @@ packets_more t cap p q w tl old mid new q1 qc e a b =
     let j : q + i - q ≡ i = omega arith in
     ap₂ max (ap (λ x. get_or mid x 0) (omega arith) ∙ a.row (q + i) (omega arith)) (ap₂ raised e (ap (entry tl (p + q - 1)) (sym j)))
     ∙ sym (pack_more t tl p (q + i) q q1 (omega arith))))
+
+-- a row of what the packets of fewer than q slots come to, with those of q slots too
+pub packets_more : (t : Task) (cap p q w : ℕ) (tl old new : List ℕ) → 1 ≤ q → q ≤ cap → w ≡ packet_words t q
+    → ((k : ℕ) → k < cap + 1 → get_or old k 0 ≡ pack_most t tl p k 1 (min (q - 1) k))
+    → Filled old new q (cap + 1 - q) (λ i. max (get_or old (q + i) 0) (raised w (entry tl (p + q - 1) i)))
+    → (k : ℕ) → k < cap + 1 → get_or new k 0 ≡ pack_most t tl p k 1 (min (q + 1 - 1) k)
+packets_more t cap p q w tl old new q1 qc e a b k l =
+    let one : q + 1 - 1 ≡ q = omega arith in
+    rw one (go (le_or_lt q k))
+  where
+    go : (q ≤ k) ⊎ (k < q) → get_or new k 0 ≡ pack_most t tl p k 1 (min q k)
+    go (inr h) = b.below k h ∙ a k l ∙ pack_same t tl p k q h
+    go (inl h) =
+        let at : q + (k - q) ≡ k = omega arith in
+        ap (λ i. get_or new i 0) (sym at)
+        ∙ b.row (k - q) (omega arith)
+        ∙ ap₂ max (ap (λ i. get_or old i 0) at ∙ a k l) (ap (λ v. raised v (entry tl (p + q - 1) (k - q))) e)
+        ∙ sym (pack_more t tl p k q q1 h)
 
 -- the most that a packet of at most P slots comes to is the head, unless the run may go on after a full one
 module _ (t : Task) (good : Sound t) (s K p f k : ℕ) (tl : List ℕ) (fn : p + f < N t) (kk : k ≤ K) (ts : Tails t s K p tl) (run : FreeRun t s p f) where
@@ -339,21 +415,27 @@ module _ (t : Task) (s K d : ℕ) (old new : List ℕ) (k : K < 64) where
       go p j (inl e) b c = subst (λ i. entry new i j ≡ tail t s i j) e (f.row j (omega arith))
       go p j (inr e) b c = (tails_kept t s K d (K + 1) old new (tail t s d) (omega arith) f z).at p j (omega arith) b c
 
--- position d is done: b says whether it is open, f' slots are open from it on, tl' has its row of tails
-module _ (t : Task) (good : Sound t) (s K d f f' : ℕ) (b : Bool) (hd tl tl' : List ℕ) (k : K < 64) (z : SolvedFrom t s K (d + 1) f hd tl)
-    (eb : b ≡ opens t s d) (ef : f' ≡ cond b (f + 1) 0) (tr : TailRow t K (K + 1) d hd tl tl') where
+-- the position before p is done: b says whether it is open, f' slots are open from it on, tl' has its row of tails
+module _ (t : Task) (good : Sound t) (s K p f f' : ℕ) (b : Bool) (hd tl tl' : List ℕ) (k : K < 64) (one : 0 < p) (z : SolvedFrom t s K p f hd tl)
+    (eb : b ≡ opens t s (p - 1)) (ef : f' ≡ cond b (f + 1) 0) (tr : TailRow t K (K + 1) (p - 1) hd tl tl') where
+  abbrev d : ℕ
+  d = p - 1
+
+  later : SolvedFrom t s K (d + 1) f hd tl
+  later = subst (λ i. SolvedFrom t s K i f hd tl) (omega arith) z
+
   grown_run : FreeRun t s d f'
-  grown_run = rw ef (run_grown t s d f b z.run eb)
+  grown_run = rw ef (run_grown t s d f b later.run eb)
 
   grown_within : d + f' < N t
   grown_within = go b ef
     where
       go : (b : Bool) → f' ≡ cond b (f + 1) 0 → d + f' < N t
-      go true e = omega (arith, z.within)
-      go false e = omega (arith, z.within)
+      go true e = omega (arith, later.within)
+      go false e = omega (arith, later.within)
 
   grown_tails : Tails t s K d tl'
-  grown_tails = tails_more t s K d tl tl' k (tr.is s K (omega arith) z.heads z.tails) z.tails
+  grown_tails = tails_more t s K d tl tl' k (tr.is s K (omega arith) later.heads later.tails) later.tails
 
   pub from_held : Held t hd tl' d f' K
   from_held =
@@ -363,7 +445,7 @@ module _ (t : Task) (good : Sound t) (s K d f f' : ℕ) (b : Bool) (hd tl tl' : 
         runs = grown_within;
         kk = omega arith;
         k63 = omega arith;
-        heads = z.heads;
+        heads = later.heads;
         tails = grown_tails;
         run = grown_run;
       }
@@ -376,6 +458,6 @@ module _ (t : Task) (good : Sound t) (s K d f f' : ℕ) (b : Bool) (hd tl tl' : 
       record {
         run = grown_run;
         within = grown_within;
-        heads = heads_more t s K d hd hd' k (hr.is s K grown_within (omega arith) z.heads grown_tails grown_run) z.heads;
+        heads = heads_more t s K d hd hd' k (hr.is s K grown_within (omega arith) later.heads grown_tails grown_run) later.heads;
         tails = grown_tails;
       }

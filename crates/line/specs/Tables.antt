@@ -1,26 +1,17 @@
 -- The two tables as the code keeps them: 64 entries for each position, the one of k slots at position p at p * 64 + k.
 -- An entry is the largest of some entries at later positions: a tail is the largest head that the gap allows, and a head
 -- the largest of its packets, each with the tail after it or, after a full packet, the next head.
-use Rattle.std.specs.Prelude.{◌≡◌, refl, true, false, List, ◌⊎◌, get_or}
-use Rattle.std.proofs.Math.Path.{sym, ap, ap₂}
-use Rattle.std.proofs.Common.{◌∙◌, inl, inr, ⊎_elim, add-zero}
-use Prim.Native.Nat.{ℕ, zero, suc, ◌+◌, ◌-◌, ◌*◌, ◌≤◌, ◌<◌, max, min}
-use native.Mathlib.Omega.{arith}
-use Rattle.rules.specs.Sets.{Below}
-use Rattle.rules.specs.Wheels.{Legal}
+use Rattle.std.specs.Prelude.{◌≡◌, refl, true, false, List, ◌⊎◌, get_or, ℕ, zero, suc, ◌+◌, ◌-◌, ◌*◌, ◌≤◌, ◌<◌, max, min}
+use Rattle.std.proofs.Common.{◌∙◌, inl, inr, ⊎_elim, add-zero, sym, ap, ap₂, arith}
 use Rattle.laws.specs.Logic.{le_or_lt}
 use Rattle.line.specs.declared.Task.{Task}
+use Rattle.line.specs.Asked.{Asked}
 use Rattle.line.specs.Values.{N, P, L, raised}
 use Rattle.line.specs.Packets.{packet_words, opens, head, tail, reach, reach_first, reach_step, reach_cut, reach_end, mid, mid_first, mid_step, mid_stop, mid_full}
 
--- what is asked of a search: a legal wheel that can be cut open, words and gaps that are not 0, free slots of the wheel
-pub record Sound (t : Task) : Type 0 where
-  pub legal : Legal t.wheel
-  pub two : 2 ≤ N t
-  pub some : 1 ≤ t.words.0
-  pub l1 : 1 ≤ L t
-  pub l64 : L t ≤ 64
-  pub fit : Below (N t) t.free
+-- what is asked of a search holds: its wheel, its words, its limit and its free slots are sound
+abbrev pub Sound : Task → Type 0
+Sound t = Asked t.wheel t.free t.words t.limit
 
 -- the entry of k slots at position p
 abbrev pub entry : List ℕ → ℕ → ℕ → ℕ

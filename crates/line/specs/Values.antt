@@ -1,14 +1,8 @@
 -- The linear problem: which of a line of free slots to choose, so that k are chosen, no gap exceeds the limit, and the
 -- words are most. `worth` goes through the slots once and takes or skips each. A choice never comes to more than that,
 -- and the greedy choice, which takes a slot wherever taking is as good as skipping, attains it and is the first that does.
-use Rattle.std.specs.Prelude.{◌≡◌, Bool, leb, ltb}
-use Rattle.std.proofs.Math.Path.{refl, sym, ap}
-use Rattle.std.proofs.Common.{◌∙◌, ltb-true, leb-true, leb-false, lt-ltb, le-leb}
-use Rattle.std.proofs.Math.Bool.{true, false}
-use mathlib.Core.List.{List, [], ◌∷◌}
-use Prim.Native.Nat.{ℕ, zero, suc, pred, ◌+◌, ◌*◌, ◌≤◌, ◌<◌, max}
-use native.Mathlib.Omega.{arith}
-use Rattle.std.proofs.Math.ListN.{length}
+use Rattle.std.specs.Prelude.{◌≡◌, Bool, leb, ltb, refl, true, false, List, [], ◌∷◌, ℕ, zero, suc, pred, ◌+◌, ◌*◌, ◌≤◌, ◌<◌, max, length}
+use Rattle.std.proofs.Common.{◌∙◌, ltb-true, leb-true, leb-false, lt-ltb, le-leb, sym, ap, arith}
 use Rattle.laws.specs.Logic.{not_both}
 use Rattle.laws.specs.Reading.{count, gain, next, line_words}
 use Rattle.laws.specs.Runs.{line}

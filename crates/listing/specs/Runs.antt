@@ -1,10 +1,7 @@
 -- The run through the lines. What is printed so far, with whatever the lines that are left print from the state that was
 -- reached, is what all lines print; at the end nothing is left.
-use Rattle.std.specs.Prelude.{◌≡◌, refl, ℕ, zero, suc, ◌+◌, ◌-◌, ◌*◌, ◌≤◌, ◌<◌, length, get_or, take, replicate}
-use Rattle.std.proofs.Common.{sym, ap, ◌∙◌, arith, length-append, length-take, drop-drop}
-use Rattle.std.proofs.Math.Path.{subst}
-use mathlib.Core.List.{List, [], ◌∷◌, ◌++◌, append_assoc, append-nil}
-use Rattle.std.proofs.Math.ListN.{drop, drop_of_length-le}
+use Rattle.std.specs.Prelude.{◌≡◌, refl, List, [], ◌∷◌, ◌++◌, ℕ, zero, suc, ◌+◌, ◌*◌, ◌≤◌, ◌<◌, length, get_or, take, drop, replicate}
+use Rattle.std.proofs.Common.{sym, ap, ◌∙◌, subst, arith, append_assoc, append-nil, length-append, drop-drop}
 use Rattle.rules.specs.Sets.{all, list_of}
 use Rattle.rules.specs.Paths.{trimmed}
 use Rattle.rules.specs.Promises.{closed_record}
@@ -12,111 +9,94 @@ use Rattle.bytes_list.specs.Layout.{number_at, numbers_at, known_state, is_zero,
 use Rattle.grammar.specs.Text.{lines, ascii}
 use Rattle.grammar.specs.Answers.{long_text}
 use Rattle.grammar.specs.Writing.{written_take, written_drop}
-use Rattle.reading.specs.declared.Span.{Span}
-use Rattle.reading.specs.Meaning.{Next}
+use Rattle.grammar.specs.Listing.{State, Prints, end, next, start, Writes}
+use Rattle.reading.specs.Meaning.{First}
+use Rattle.texts.specs.declared.Page.{Page}
 use Rattle.texts.specs.Puts.{Puts, puts_length}
-use Rattle.grammar.specs.Listing.{State, Step, Prints, end, next, start, Writes}
-use Rattle.answering.specs.Lines.{state, count_sixteen, Fed}
+use Rattle.answering.specs.Lines.{state, RoomFor, count_sixteen, Fed}
+use Rattle.answering.specs.declared.Board.{Board}
 
--- an input that is not too long, the bytes of 16 records, and room for every listing
-pub record Room (input list out : List ℕ) : Type 0 where
+-- an input that is not too long, and an empty page with room for every listing
+pub record Room (input : List ℕ) (page : Page) : Type 0 where
   pub small : length input ≤ 4096
-  pub long : length list ≡ 1024
-  pub large : 65536 ≤ length out
+  pub empty : page.len ≡ 0
+  pub large : 65536 ≤ length page.out.now
 
--- one turn: the line at `from`, which is line k
-pub record Turned (input : List ℕ) (from k : ℕ) (s s' : State) (old : List ℕ) (at : ℕ) (new : List ℕ) (after place : ℕ) : Type 0 where
-  pub line : List ℕ
-  pub text : List ℕ
-  pub split : lines (drop from input) ≡ line ∷ lines (drop after input)
-  pub on : from < after
-  pub inside : after ≤ length input
-  pub step : Step s k line s' text
-  pub fair : place ≤ at + 14 * (after - from)
-  pub puts : Puts old at (text ++ (10 ∷ [])) new place
-
--- every line has been answered; what `out` holds from r on is as before
-pub record Ran (input : List ℕ) (s : State) (old new : List ℕ) (r : ℕ) : Type 0 where
-  pub prints : Prints s 1 (lines input) (take r new)
-  pub inside : r ≤ length new
-  pub long : length new ≡ length old
-  pub rest : drop r new ≡ drop r old
-
--- ---- a turn
-
-pub turned : (input : List ℕ) (from k : ℕ) (s s' : State) (old : List ℕ) (at : ℕ) (new : List ℕ) (n : Span) (place : ℕ) → Next input from n
-    → Fed s k (take (n.end - from) (drop from input)) s' old at new place → Turned input from k s s' old at new n.next place
-turned input from k s s' old at new n place r f = record {
-  line = take (n.end - from) (drop from input);
-  text = f.text;
-  split = r.split;
-  on = r.on;
-  inside = r.inside;
-  step = f.step;
-  fair =
-      omega
-      (arith, f.fair, f.puts.place, length-append f.text (10 ∷ []), length-take (n.end - from) (drop from input), r.past, r.on, r.from);
-  puts = f.puts;
-}
+-- every line has been answered on the page, and what stands past its texts is as before
+pub record Ran (input : List ℕ) (s : State) (old new : Page) : Type 0 where
+  pub same : new.out.ghost_name ≡ old.out.ghost_name
+  pub prints : Prints s 1 (lines input) (take new.len new.out.now)
+  pub inside : new.len ≤ length new.out.now
+  pub long : length new.out.now ≡ length old.out.now
+  pub rest : drop new.len new.out.now ≡ drop new.len old.out.now
 
 -- ---- the loop
 
-pub record Going (input : List ℕ) (s₀ : State) (out₀ : List ℕ) (s : State) (from k : ℕ) (out : List ℕ) (at : ℕ) : Type 0 where
-  pub inside : from ≤ length input
-  pub count : k ≤ from + 1
-  pub fair : at ≤ 14 * from
-  pub long : length out ≡ length out₀
-  pub rest : drop at out ≡ drop at out₀
-  pub prints : (more : List ℕ) → Prints s k (lines (drop from input)) more → Prints s₀ 1 (lines input) (take at out ++ more)
+-- the lines up to the rest are answered: the page had p₀, and has p
+pub record Going (input : List ℕ) (s₀ : State) (p₀ : Page) (s : State) (rest : List ℕ) (k : ℕ) (p : Page) : Type 0 where
+  pub same : p.out.ghost_name ≡ p₀.out.ghost_name
+  pub count : k + length rest ≤ length input + 1
+  pub fair : p.len + 14 * length rest ≤ 14 * length input
+  pub long : length p.out.now ≡ length p₀.out.now
+  pub back : drop p.len p.out.now ≡ drop p.len p₀.out.now
+  pub prints : (more : List ℕ) → Prints s k (lines rest) more → Prints s₀ 1 (lines input) (take p.len p.out.now ++ more)
 
-pub going_start : (input : List ℕ) (s : State) (out : List ℕ) → Going input s out s 0 1 out 0
-going_start input s out = record {
-  inside = omega arith;
+-- no text stands on an empty page
+none_written : (n : ℕ) (xs : List ℕ) → n ≡ 0 → take n xs ≡ []
+none_written n xs e = ap (λ k. take k xs) e
+
+pub going_start : (input : List ℕ) (s : State) (p : Page) → Room input p → Going input s p s input 1 p
+going_start input s p room = record {
+  same = refl;
   count = omega arith;
-  fair = omega arith;
+  fair = omega (arith, room.empty);
   long = refl;
-  rest = refl;
-  prints = λ more p. p;
+  back = refl;
+  prints = λ more q. subst (λ xs. Prints s 1 (lines input) (xs ++ more)) (sym (none_written p.len p.out.now room.empty)) q;
 }
 
-module _ (input : List ℕ) (s₀ : State) (out₀ : List ℕ) (s : State) (from k : ℕ) (out : List ℕ) (at : ℕ) (g : Going input s₀ out₀ s from k out at) where
-  pub going_on : (s' : State) (new : List ℕ) (after place : ℕ) → length input ≤ 4096 → 65536 ≤ length out₀ → Turned input from k s s' out at new after place
-      → Going input s₀ out₀ s' after (k + 1) new place
-  going_on s' new after place small large t =
-      let text = t.text ++ (10 ∷ []) in
-      let fits : at + length text ≤ length out = omega (arith, t.puts.place, t.fair, g.fair, g.long, t.inside, t.on) in
-      let took : take place new ≡ take at out ++ text =
-      ap (λ n. take n new) t.puts.place ∙ ap (take (at + length text)) t.puts.out ∙ written_take out at text fits in
-      let left : drop place new ≡ drop place out =
-      ap (λ n. drop n new) t.puts.place ∙ ap (drop (at + length text)) t.puts.out ∙ written_drop out at text fits
-      ∙ ap (λ n. drop n out) (sym t.puts.place) in
-      let past : at + length text ≡ place = sym t.puts.place in
+module _ (input : List ℕ) (s₀ : State) (p₀ : Page) (room : Room input p₀) (s : State) (rest : List ℕ) (k : ℕ) (p : Page)
+    (g : Going input s₀ p₀ s rest k p) where
+  -- there is room for one more line, and its number is small
+  pub line_room : 0 < length rest → RoomFor 84 p × (k < 10000)
+  line_room some = (omega (arith, g.fair, g.long, room.small, room.large), omega (arith, g.count, room.small))
+
+  pub going_on : (line others : List ℕ) (s' : State) (new : Page) → First rest line others → Fed s k line s' p new
+      → Going input s₀ p₀ s' others (k + 1) new
+  going_on line others s' new first fed =
+      let text = fed.text ++ (10 ∷ []) in
+      let long : length text ≡ length fed.text + 1 = length-append fed.text (10 ∷ []) in
+      let fits : p.len + length text ≤ length p.out.now = omega (arith, fed.fair, g.fair, g.long, room.small, room.large, first.on, first.short) in
+      let took : take new.len new.out.now ≡ take p.len p.out.now ++ text =
+      ap (λ n. take n new.out.now) fed.puts.len ∙ ap (take (p.len + length text)) fed.puts.out ∙ written_take p.out.now p.len text fits in
+      let left : drop new.len new.out.now ≡ drop new.len p.out.now =
+      ap (λ n. drop n new.out.now) fed.puts.len ∙ ap (drop (p.len + length text)) fed.puts.out ∙ written_drop p.out.now p.len text fits
+      ∙ ap (λ n. drop n p.out.now) (sym fed.puts.len) in
+      let past : p.len + length text ≡ new.len = sym fed.puts.len in
       record {
-        inside = t.inside;
-        count = omega (arith, g.count, t.on);
-        fair = omega (arith, g.fair, t.fair, t.on);
-        long = puts_length text t.puts fits ∙ g.long;
-        rest =
-            left ∙ ap (λ n. drop n out) (sym past) ∙ sym (drop-drop (length text) at out) ∙ ap (drop (length text)) g.rest
-            ∙ drop-drop (length text) at out₀ ∙ ap (λ n. drop n out₀) past;
-        prints = λ more p.
-            let all = g.prints (t.text ++ (10 ∷ more)) (subst (λ ls. Prints s k ls (t.text ++ (10 ∷ more))) (sym t.split) (next t.step p)) in
+        same = fed.puts.same ∙ g.same;
+        count = omega (arith, g.count, first.on);
+        fair = omega (arith, g.fair, fed.fair, fed.puts.len, first.on, first.short);
+        long = puts_length text fed.puts fits ∙ g.long;
+        back =
+            left ∙ ap (λ n. drop n p.out.now) (sym past) ∙ sym (drop-drop (length text) p.len p.out.now) ∙ ap (drop (length text)) g.back
+            ∙ drop-drop (length text) p.len p₀.out.now ∙ ap (λ n. drop n p₀.out.now) past;
+        prints = λ more q.
+            let all = g.prints (fed.text ++ (10 ∷ more)) (subst (λ ls. Prints s k ls (fed.text ++ (10 ∷ more))) (sym first.split) (next fed.step q)) in
             subst (Prints s₀ 1 (lines input))
-            (ap (λ xs. take at out ++ xs) (sym (append_assoc t.text (10 ∷ []) more)) ∙ sym (append_assoc (take at out) text more)
+            (ap (λ xs. take p.len p.out.now ++ xs) (sym (append_assoc fed.text (10 ∷ []) more)) ∙ sym (append_assoc (take p.len p.out.now) text more)
             ∙ ap (λ xs. xs ++ more) (sym took))
             all;
       }
 
-  pub going_end : length input ≤ 4096 → 65536 ≤ length out₀ → length input ≤ from → Ran input s₀ out₀ out at
+  pub going_end : rest ≡ [] → Ran input s₀ p₀ p
   unfolding lines
-  going_end small large h = record {
-    prints =
-        let none : drop from input ≡ [] = drop_of_length-le input {i = from} h in
-        subst (Prints s₀ 1 (lines input)) (append-nil (take at out))
-        (g.prints [] (subst (λ xs. Prints s k (lines xs) []) (sym none) end));
-    inside = omega (arith, g.long, g.fair, g.inside);
+  going_end none = record {
+    same = g.same;
+    prints = subst (Prints s₀ 1 (lines input)) (append-nil (take p.len p.out.now)) (g.prints [] (subst (λ xs. Prints s k (lines xs) []) (sym none) end));
+    inside = omega (arith, g.long, g.fair, room.small, room.large);
     long = g.long;
-    rest = g.rest;
+    rest = g.back;
   }
 
 -- ---- the whole
@@ -141,12 +121,13 @@ unfolding records
 zeros_records n zero i = refl
 zeros_records n (suc m) i = rw (zeros_record n (64 * i), zeros_records n m (suc i))
 
-start_is : state (zeros 1024) (zeros 1024) ≡ start
+start_is : (b : Board 1024) → b.table ≡ zeros 1024 → b.list ≡ zeros 1024 → state b ≡ start
 unfolding start list_in
-start_is =
-    let list : list_in (zeros 1024) ≡ replicate 16 closed_record =
+start_is b table list =
+    let closed : list_in (zeros 1024) ≡ replicate 16 closed_record =
     ap (records (zeros 1024) 0) (count_sixteen (zeros 1024) refl) ∙ zeros_records 1024 16 0 in
-    λ i. record { table = zeros 1024; list = list i }
+    let is : list_in b.list ≡ replicate 16 closed_record = ap list_in list ∙ closed in
+    λ i. record { table = table i; list = is i }
 
 pub writes_nothing : (input old : List ℕ) → length old < 65536 → Writes input old old 0
 writes_nothing input old h = record {
@@ -157,30 +138,34 @@ writes_nothing input old h = record {
   rest = refl;
 }
 
-pub writes_long : (input old new : List ℕ) (r : ℕ) → 65536 ≤ length old → 4096 < length input → Puts old 0 long_text new r → Writes input old new r
+pub writes_long : (input out : List ℕ) (old new : Page) → out ≡ new.out.now → old.len ≡ 0 → 65536 ≤ length old.out.now → 4096 < length input
+    → Puts old long_text new → Writes input old.out.now out new.len
 unfolding long_text ascii list_of
-writes_long input old new r room long p =
-    let fits : 0 + length long_text ≤ length old = omega arith in
-    let kept : length new ≡ length old = puts_length long_text p fits in
-    let took : take r new ≡ long_text =
-    ap (λ n. take n new) p.place ∙ ap (take (0 + length long_text)) p.out ∙ written_take old 0 long_text fits in
-    let left : drop r new ≡ drop r old =
-    ap (λ n. drop n new) p.place ∙ ap (drop (0 + length long_text)) p.out ∙ written_drop old 0 long_text fits
-    ∙ ap (λ n. drop n old) (sym p.place) in
-    record {
+writes_long input out old new is empty room long p =
+    let fits : old.len + length long_text ≤ length old.out.now = omega arith in
+    let took : take new.len new.out.now ≡ long_text =
+    ap (λ n. take n new.out.now) p.len ∙ ap (take (old.len + length long_text)) p.out ∙ written_take old.out.now old.len long_text fits
+    ∙ ap (λ xs. xs ++ long_text) (none_written old.len old.out.now empty) in
+    let left : drop new.len new.out.now ≡ drop new.len old.out.now =
+    ap (λ n. drop n new.out.now) p.len ∙ ap (drop (old.len + length long_text)) p.out ∙ written_drop old.out.now old.len long_text fits
+    ∙ ap (λ n. drop n old.out.now) (sym p.len) in
+    rw is
+    (record {
       short = λ l. absurd (omega arith);
       lists = λ l. record { printed = λ m. absurd (omega arith); too_long = λ m. took };
-      inside = omega (arith, p.place);
-      long = kept;
+      inside = omega (arith, p.len, puts_length long_text p fits);
+      long = puts_length long_text p fits;
       rest = left;
-    }
+    })
 
-pub writes_lines : (input table flows old new : List ℕ) (r : ℕ) → 65536 ≤ length old → length input ≤ 4096
-    → table ≡ replicate 1024 0 → flows ≡ replicate 1024 0 → Ran input (state table flows) old new r → Writes input old new r
-writes_lines input table flows old new r room small p q ran = record {
-  short = λ l. absurd (omega arith);
-  lists = λ l. record { printed = λ m. rw (p, q, start_is) at ran.prints; too_long = λ m. absurd (omega arith) };
-  inside = ran.inside;
-  long = ran.long;
-  rest = ran.rest;
-}
+pub writes_lines : (input out : List ℕ) (b : Board 1024) (old new : Page) → out ≡ new.out.now → 65536 ≤ length old.out.now → length input ≤ 4096
+    → b.table ≡ replicate 1024 0 → b.list ≡ replicate 1024 0 → Ran input (state b) old new → Writes input old.out.now out new.len
+writes_lines input out b old new is room small table list ran =
+    rw is
+    (record {
+      short = λ l. absurd (omega arith);
+      lists = λ l. record { printed = λ m. rw (start_is b table list) at ran.prints; too_long = λ m. absurd (omega arith) };
+      inside = ran.inside;
+      long = ran.long;
+      rest = ran.rest;
+    })

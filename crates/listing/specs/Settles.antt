@@ -1,10 +1,10 @@
 -- The input settles the listing: a line reads as at most one command, each promise settles its answer with table and list
 -- afterwards, and the start is the same.
-use Rattle.std.specs.Prelude.{◌≡◌, refl, List, [], ◌∷◌, ◌++◌, ◌⊎◌, ℕ, ◌+◌, ◌≤◌, ◌<◌, length, take, drop}
+use Rattle.std.specs.Prelude.{◌≡◌, refl, List, [], ◌∷◌, ◌++◌, ◌⊎◌, ℕ, ◌+◌, ◌≤◌, ◌<◌, length, take, drop, Result}
 use Rattle.std.proofs.Common.{sym, ap, ◌∙◌, subst, inl, inr, take-append-drop, length-take-le}
-use Rattle.rules.specs.declared.Opened.{Opened}
-use Rattle.rules.specs.declared.Cleared.{Cleared}
-use Rattle.rules.specs.declared.Reported.{Reported}
+use Rattle.rules.specs.declared.Refusal.{Refusal}
+use Rattle.rules.specs.declared.Totals.{Totals}
+use Rattle.rules.specs.declared.Grant.{Grant}
 use Rattle.laws.specs.Logic.{le_or_lt}
 use Rattle.ledger.specs.Calls.{opens_unique, closes_unique, reports_unique}
 use Rattle.grammar.specs.Text.{lines}
@@ -16,9 +16,9 @@ use Rattle.grammar.specs.Listing.{State, OpensFrom, ClosesFrom, ReportsFrom, Ste
 -- what was done for a command: the promise with its answer, and the answer's text
 Did : State → Command → State → List ℕ → Type 0
 Did s (opening f W D cs) u text =
-    (a : Opened) × OpensFrom s f W D cs u a × (text ≡ open_text f a)
-Did s (closing f) u text = (a : Cleared) × ClosesFrom s f u a × (text ≡ close_text f a)
-Did s reporting u text = (a : Reported) × ReportsFrom s a × (u ≡ s) × (text ≡ report_text a)
+    (a : Result Grant Refusal) × OpensFrom s f W D cs u a × (text ≡ open_text f a)
+Did s (closing f) u text = (a : Result ℕ Refusal) × ClosesFrom s f u a × (text ≡ close_text f a)
+Did s reporting u text = (a : Result Totals Refusal) × ReportsFrom s a × (u ≡ s) × (text ≡ report_text a)
 
 -- a line is a command that was carried out, or it is bad
 record Carried (s : State) (line : List ℕ) (u : State) (text : List ℕ) : Type 0 where

@@ -4,27 +4,26 @@
 // (rule 7), and every byte must be as painted.
 #![tactic(auto)]
 
-ghost use Rattle.std.specs.Prelude.{◌≡◌, ◌≤◌, length};
+use apart::{Grant, No, Wheel};
+pub use exact::select;
 
-use apart::Found;
+// The bytes of a channel's row in the table, and of a flow's record in the list.
+pub const ROW: usize = 64;
 
-// Where a record's numbers of 16 bits stand; the path's sixteen entries stand from PATH on, the
-// slots' four numbers from SLOTS on, and what is reserved from REST on to the END.
-const STATE: u64 = 0;
+// The most bytes that a table or a list has.
+pub const MOST: usize = 64 * ROW;
 
-const WORDS: u64 = 1;
+// The bytes of a room: for 64 rows, and for two more, which no table and no list has.
+pub const ROOM: usize = MOST + 2 * ROW;
 
-const DEADLINE: u64 = 2;
+// ---- what a call is given, and what it answers
 
-const LENGTH: u64 = 3;
-
-const PATH: u64 = 4;
-
-const SLOTS: u64 = 20;
-
-const REST: u64 = 24;
-
-const END: u64 = 32;
+// Table and list, each at the start of a room of its own.
+#[derive(Clone, Copy, PartialEq, Eq)]
+pub struct Rooms {
+    pub table: [u8; ROOM],
+    pub list: [u8; ROOM],
+}
 
 // The calls over table and list.
 #[derive(Clone, Copy)]
@@ -35,609 +34,486 @@ pub enum Call {
     Agree,
 }
 
-// What a call is given beside the bytes: the wheel, of how many bytes table and list are, and what
-// is asked. Closing reads only the flow of the last five, and the others nothing.
+// A path: sixteen channels, of which so many are used.
 #[derive(Clone, Copy)]
-pub struct Asked {
-    pub n: u64,
-    pub s: u64,
-    pub h: u64,
-    pub p: u64,
-    pub table: u64,
-    pub list: u64,
-    pub flow: u64,
-    pub path: [u16; 16],
+pub struct Path {
+    pub channels: [u16; 16],
     pub len: u64,
+}
+
+// What a flow asks for: words in a revolution, and a deadline in slots.
+#[derive(Clone, Copy)]
+pub struct Demand {
     pub words: u64,
     pub deadline: u64,
 }
 
-// What a call answers: the number of its no beside zeros; or 0 and the values of the yes, in the
-// order of document 01: slots, their number and words; cleared cells; free and held cells.
+// What a call is given beside the rooms: the wheel, of how many bytes table and list are, and what
+// is asked. Closing reads only the flow of the last three, and the others nothing.
 #[derive(Clone, Copy)]
-pub struct Reply {
-    pub no: u64,
-    pub one: u64,
-    pub two: u64,
-    pub three: u64,
+pub struct Asked {
+    pub wheel: Wheel,
+    pub table: usize,
+    pub list: usize,
+    pub flow: u64,
+    pub path: Path,
+    pub demand: Demand,
 }
 
-// ---- numbers and bytes: an index outside reads 0 and writes nothing
-
-// The sum of two numbers, which are small.
-pub fn plus(a: u64, b: u64) -> u64 {
-    std::num::wrapping_add_u64(a, b)
+// The yes of a call: what was granted, how many cells were cleared, free and held cells, or that
+// table and list agree.
+#[derive(Clone, Copy, PartialEq, Eq)]
+pub enum Yes {
+    Granted(Grant),
+    Cleared(u64),
+    Counted { free: u64, held: u64 },
+    Agreed,
 }
 
-// a - b, and 0 where b is more.
-fn minus(a: u64, b: u64) -> u64 {
-    if b < a { a - b } else { 0 }
+// What a call answers.
+pub type Reply = Result<Yes, No>;
+
+// The part of the table that is the row of a channel: where it begins, and how many cells it has.
+#[derive(Clone, Copy, PartialEq, Eq)]
+pub struct Part {
+    pub at: u64,
+    pub cells: u64,
 }
 
-// The smaller of a number and a length.
-pub fn least(a: u64, b: usize) -> usize
-    ensures { result ≤ b }
-{
-    let k = a as usize;
-    if k < b { k } else { b }
-}
-
-// A byte as a number.
-fn wide(v: u8) -> u64 {
-    v as u64
-}
-
-// A channel as a number.
-fn channel(v: u16) -> u64 {
-    v as u64
-}
-
-// A number in 16 bits.
-pub fn short(v: u64) -> u16 {
-    (v % 65536) as u16
-}
-
-// A length as a number.
-fn long(v: usize) -> u64 {
-    v as u64
-}
-
-// A byte.
-pub fn byte(bytes: &[u8], i: u64) -> u64 {
-    let k = i as usize;
-    if k < bytes.len() { wide(bytes[k]) } else { 0 }
-}
-
-// Writes a byte.
-pub fn put(bytes: &mut [u8], i: u64, v: u64) {
-    let k = i as usize;
-    if k < bytes.len() {
-        bytes[k] = (v % 256) as u8;
-    }
-}
-
-// Room for a table of 64 channels or a list of 64 flows, and for two more, which neither has.
-pub fn room() -> [u8; 4224]
-    ensures { 4224 ≡ length result }
-{
-    [0; 4224]
-}
-
-// Whether a table begins as another does, as far as it goes.
-pub fn same(a: &[u8], b: &[u8]) -> bool {
-    let n = a.len();
-    if b.len() < n {
-        return false;
-    }
-    let mut i = 0;
-    while i < n {
-        if a[i] != b[i] {
-            return false;
+impl Rooms {
+    // Rooms of zeros: every cell is free, and every flow is closed.
+    pub fn empty() -> Rooms {
+        Rooms {
+            table: [0; ROOM],
+            list: [0; ROOM],
         }
-        i += 1;
     }
-    true
+}
+
+// The first bytes of a room, as many as are lent.
+pub fn lent_part(room: &mut [u8], size: usize) -> &mut [u8] {
+    let end = size.min(room.len());
+    &mut room[..end]
+}
+
+// ---- paths and demands
+
+impl Path {
+    // The path over these channels, sixteen at most.
+    pub fn over(used: &[u16]) -> Path {
+        let len = used.len().min(16);
+        let mut channels: [u16; 16] = [0; 16];
+        channels[..len].copy_from_slice(&used[..len]);
+        Path {
+            channels,
+            len: len as u64,
+        }
+    }
+
+    // The channels that are used.
+    fn used(&self) -> &[u16] {
+        &self.channels[..self.len.min(16) as usize]
+    }
+
+    // What is wrong with the path where there are so many channels.
+    fn check(&self, count: usize) -> Result<(), No> {
+        if self.len == 0 || 16 < self.len {
+            return Err(No::PathLength);
+        }
+        let used = self.used();
+        if used.iter().any(|channel| count <= usize::from(*channel)) {
+            return Err(No::NoChannel);
+        }
+        if repeats(used) {
+            return Err(No::ChannelTwice);
+        }
+        Ok(())
+    }
+}
+
+// Whether a channel stands twice.
+fn repeats(used: &[u16]) -> bool {
+    used.iter()
+        .enumerate()
+        .any(|(i, channel)| used[..i].contains(channel))
+}
+
+impl Demand {
+    // Whether slots below N meet the demand on a path of so many channels (rules 4 and 5).
+    fn is_met(self, wheel: Wheel, slots: u64, len: u64) -> bool {
+        0 < self.words
+            && len < self.deadline
+            && apart::cut(slots, wheel.n) == slots
+            && self.words <= wheel.words(slots)
+            && apart::largest_gap(wheel.n, slots) <= self.deadline - len
+    }
 }
 
 // ---- the list
 
-// Where number j of flow f's record stands; the first flow is 1.
-fn place(f: u64, j: u64) -> u64 {
-    (plus(f, 63) % 64) * 64 + (j % 32) * 2
+// How many numbers of 16 bits a record has. The sixteen path entries stand from PATH on, the slots'
+// four numbers from SLOTS on, and what is reserved from REST on.
+const NUMBERS: usize = 32;
+
+const PATH: usize = 4;
+
+const SLOTS: usize = 20;
+
+const REST: usize = 24;
+
+// A flow's record: state 0 is closed and 1 open, and the rest is what its bytes say, as it is. The
+// state is a number and no enum, since the bytes may hold any number, and the model decides for all.
+#[derive(Clone, Copy, PartialEq, Eq, Default)]
+pub struct Record {
+    pub state: u16,
+    pub words: u16,
+    pub deadline: u16,
+    pub len: u16,
+    pub channels: [u16; 16],
+    pub slots: u64,
+    pub rest: [u16; 8],
 }
 
-// Number j of flow f's record, low byte first.
-fn number(list: &[u8], f: u64, j: u64) -> u64 {
-    let at = place(f, j);
-    byte(list, at) | (byte(list, plus(at, 1)) << 8)
-}
-
-// Writes number j of flow f's record.
-pub fn put_number(list: &mut [u8], f: u64, j: u64, v: u64) {
-    let at = place(f, j);
-    put(list, at, v % 256);
-    put(list, plus(at, 1), v / 256);
-}
-
-// The chosen slots of flow f.
-fn slots(list: &[u8], f: u64) -> u64 {
-    let low = number(list, f, SLOTS) | (number(list, f, SLOTS + 1) << 16);
-    low | (number(list, f, SLOTS + 2) << 32) | (number(list, f, SLOTS + 3) << 48)
-}
-
-// The path of flow f.
-fn path_of(list: &[u8], f: u64) -> [u16; 16] {
-    let mut path: [u16; 16] = [0; 16];
-    let mut i = 0;
-    while i < 16 {
-        path[i] = short(number(list, f, plus(PATH, long(i))));
-        i += 1;
+// The numbers that bytes hold, low byte first.
+fn numbers_of(bytes: &[u8]) -> [u16; NUMBERS] {
+    let mut numbers: [u16; NUMBERS] = [0; NUMBERS];
+    for (number, pair) in numbers.iter_mut().zip(bytes.chunks_exact(2)) {
+        *number = u16::from_le_bytes([pair[0], pair[1]]);
     }
-    path
+    numbers
 }
 
-// Whether the numbers of flow f's record from `from` up to `to` are 0.
-fn zeros(list: &[u8], f: u64, from: u64, to: u64) -> bool {
-    let mut j = from;
-    while j < to {
-        if number(list, f, j) != 0 {
-            return false;
+// A number as a record's 16 bits keep it: 65,535 for all above.
+fn kept(number: u64) -> u16 {
+    number.min(65535) as u16
+}
+
+impl Record {
+    // An open record with these slots.
+    fn opened(path: &Path, demand: Demand, slots: u64) -> Record {
+        let kept_path = Path::over(path.used());
+        let channels = kept_path.channels;
+        let rest: [u16; 8] = [0; 8];
+        Record {
+            state: 1,
+            words: kept(demand.words),
+            deadline: kept(demand.deadline),
+            len: kept(path.len),
+            channels,
+            slots,
+            rest,
         }
-        j += 1;
     }
-    true
-}
 
-// Entry i of a path.
-fn entry(path: [u16; 16], i: u64) -> u64 {
-    let k = i as usize;
-    if k < 16 { channel(path[k]) } else { 0 }
-}
-
-// Entry i of a path as a record keeps it: 0 from the length on.
-fn kept_entry(path: [u16; 16], len: u64, i: u64) -> u64 {
-    if i < len { entry(path, i) } else { 0 }
-}
-
-// Writes the path into flow f's record.
-fn put_path(list: &mut [u8], f: u64, path: [u16; 16], len: u64) {
-    let mut i = 0;
-    while i < 16 {
-        put_number(list, f, plus(PATH, i), kept_entry(path, len, i));
-        i += 1;
-    }
-}
-
-// Writes the slots into flow f's record.
-pub fn put_slots(list: &mut [u8], f: u64, x: u64) {
-    put_number(list, f, SLOTS, x % 65536);
-    put_number(list, f, SLOTS + 1, (x >> 16) % 65536);
-    put_number(list, f, SLOTS + 2, (x >> 32) % 65536);
-    put_number(list, f, SLOTS + 3, x >> 48);
-}
-
-// A deadline as a record's 16 bits keep it: 65,535 for all above.
-fn kept(deadline: u64) -> u64 {
-    if 65535 < deadline { 65535 } else { deadline }
-}
-
-// Makes the record of the flow asked for open, with these slots.
-fn put_open(list: &mut [u8], a: Asked, x: u64) {
-    let path = a.path;
-    put_number(list, a.flow, STATE, 1);
-    put_number(list, a.flow, WORDS, a.words);
-    put_number(list, a.flow, DEADLINE, kept(a.deadline));
-    put_number(list, a.flow, LENGTH, a.len);
-    put_path(list, a.flow, path, a.len);
-    put_slots(list, a.flow, x);
-}
-
-// Makes the record of flow f closed.
-fn put_closed(list: &mut [u8], f: u64) {
-    let mut j = 0;
-    while j < END {
-        put_number(list, f, j, 0);
-        j += 1;
-    }
-}
-
-// ---- paths
-
-// Whether a path entry is no channel.
-fn strays(path: [u16; 16], len: u64, channels: u64) -> bool {
-    let mut i = 0;
-    while i < len {
-        if channels <= entry(path, i) {
-            return true;
+    // The record that stands in these bytes.
+    fn read(bytes: &[u8]) -> Record {
+        let numbers = numbers_of(bytes);
+        let mut channels: [u16; 16] = [0; 16];
+        channels.copy_from_slice(&numbers[PATH..SLOTS]);
+        let mut rest: [u16; 8] = [0; 8];
+        rest.copy_from_slice(&numbers[REST..]);
+        Record {
+            state: numbers[0],
+            words: numbers[1],
+            deadline: numbers[2],
+            len: numbers[3],
+            channels,
+            slots: slots_of(&numbers[SLOTS..REST]),
+            rest,
         }
-        i += 1;
     }
-    false
-}
 
-// Whether entry i stands in the path before.
-fn met(path: [u16; 16], i: u64) -> bool {
-    let mut k = 0;
-    while k < i {
-        if entry(path, k) == entry(path, i) {
-            return true;
+    // Its numbers.
+    fn numbers(&self) -> [u16; NUMBERS] {
+        let mut numbers: [u16; NUMBERS] = [0; NUMBERS];
+        numbers[0] = self.state;
+        numbers[1] = self.words;
+        numbers[2] = self.deadline;
+        numbers[3] = self.len;
+        numbers[PATH..SLOTS].copy_from_slice(&self.channels);
+        for k in 0..4 {
+            numbers[SLOTS + k] = (self.slots >> (16 * k) & 65535) as u16;
         }
-        k += 1;
+        numbers[REST..].copy_from_slice(&self.rest);
+        numbers
     }
-    false
-}
 
-// Whether a channel stands twice.
-fn repeats(path: [u16; 16], len: u64) -> bool {
-    let mut i = 0;
-    while i < len {
-        if met(path, i) {
-            return true;
+    // Writes the record into the bytes of flow f; the first flow is 1.
+    pub fn write(&self, list: &mut [u8], f: u64) {
+        let Some(bytes) = list.chunks_exact_mut(ROW).nth(f.wrapping_sub(1) as usize) else {
+            return;
+        };
+        for (pair, number) in bytes.chunks_exact_mut(2).zip(self.numbers()) {
+            pair.copy_from_slice(&number.to_le_bytes());
         }
-        i += 1;
     }
-    false
+
+    // Its path.
+    fn path(&self) -> Path {
+        Path {
+            channels: self.channels,
+            len: u64::from(self.len),
+        }
+    }
+
+    // Its demand.
+    fn demand(&self) -> Demand {
+        Demand {
+            words: u64::from(self.words),
+            deadline: u64::from(self.deadline),
+        }
+    }
+
+    // Whether it obeys its own rules: zeros throughout if it is closed, and else as an opening leaves
+    // it, with slots that meet its demand.
+    fn is_lawful(&self, wheel: Wheel, channels: usize) -> bool {
+        if self.state == 0 {
+            return *self == Record::default();
+        }
+        let path = self.path();
+        let demand = self.demand();
+        path.check(channels).is_ok()
+            && *self == Record::opened(&path, demand, self.slots)
+            && demand.is_met(wheel, self.slots, path.len)
+    }
+
+    // Writes v into every cell that the flow claims (rule 7); whether all of them were 0.
+    fn mark(&self, table: &mut [u8], n: u64, v: u8) -> bool {
+        let path = self.path();
+        let mut free = true;
+        for (i, channel) in path.used().iter().enumerate() {
+            for s in 0..n {
+                if apart::chosen(self.slots, s)
+                    && let Some(cell) = table.get_mut(cell_at(n, *channel, i, s))
+                {
+                    free = free && *cell == 0;
+                    *cell = v;
+                }
+            }
+        }
+        free
+    }
+
+    // How many cells the flow claims: as many as it has slots, at each position of its path.
+    fn cells(&self) -> u64 {
+        apart::size(self.slots).wrapping_mul(u64::from(self.len))
+    }
 }
 
-// What is wrong with a path: 5, 6, 7, or 0 for nothing.
-fn no_path(path: [u16; 16], len: u64, channels: u64) -> u64 {
-    if len == 0 || 16 < len {
-        return 5;
-    }
-    if strays(path, len, channels) {
-        return 6;
-    }
-    if repeats(path, len) { 7 } else { 0 }
+// The slots that four numbers hold, the lowest first.
+fn slots_of(numbers: &[u16]) -> u64 {
+    numbers
+        .iter()
+        .rev()
+        .fold(0, |slots, number| slots << 16 | u64::from(*number))
 }
 
-// ---- rule 7: the cells of a flow
-
-// Where the cell stands that slot s claims at position i, channel c.
-fn cell_at(n: u64, c: u64, i: u64, s: u64) -> u64 {
+// Where the cell stands that slot s claims at position i of a path, on this channel.
+fn cell_at(n: u64, channel: u16, i: usize, s: u64) -> usize {
     if n == 0 {
         return 0;
     }
-    (c % 64) * 64 + plus(s, i) % n % 64
+    let slot = s.wrapping_add(i as u64) % n;
+    usize::from(channel) * ROW + (slot % 64) as usize
 }
 
-// Writes v into the cell that slot s claims at position i, channel c; whether it was 0.
-fn mark_cell(table: &mut [u8], n: u64, c: u64, i: u64, s: u64, v: u64) -> bool {
-    let at = cell_at(n, c, i, s);
-    let free = byte(table, at) == 0;
-    put(table, at, v);
-    free
-}
+// ---- table and list as they are lent
 
-// The same if slot s is in the set x; whether nothing else stood there.
-fn mark_slot(table: &mut [u8], n: u64, c: u64, i: u64, x: u64, s: u64, v: u64) -> bool {
-    if apart::chosen(x, s) {
-        return mark_cell(table, n, c, i, s, v);
-    }
-    true
-}
-
-// The same for every slot of the set x.
-fn mark_row(table: &mut [u8], n: u64, c: u64, i: u64, x: u64, v: u64) -> bool {
-    let mut free = true;
-    let mut s = 0;
-    while s < n {
-        free = mark_slot(table, n, c, i, x, s, v) && free;
-        s += 1;
-    }
-    free
-}
-
-// Writes v into the cells that flow f claims at position i; whether all of them were 0.
-fn mark_hop(table: &mut [u8], list: &[u8], n: u64, f: u64, i: u64, v: u64) -> bool {
-    mark_row(
-        table,
-        n,
-        number(list, f, plus(PATH, i)),
-        i,
-        slots(list, f),
-        v,
-    )
-}
-
-// Writes v into every cell that flow f claims; whether all of them were 0.
-fn mark(table: &mut [u8], list: &[u8], n: u64, f: u64, v: u64) -> bool {
-    let len = number(list, f, LENGTH);
-    let mut free = true;
-    let mut i = 0;
-    while i < len {
-        free = mark_hop(table, list, n, f, i, v) && free;
-        i += 1;
-    }
-    free
-}
-
-// How many cells flow f claims: as many as it has slots, at each position of its path.
-fn cells_of(list: &[u8], f: u64) -> u64 {
-    let size = apart::size(slots(list, f));
-    let len = number(list, f, LENGTH);
-    let mut sum = 0;
-    let mut i = 0;
-    while i < len {
-        sum = plus(sum, size);
-        i += 1;
-    }
-    sum
-}
-
-// ---- agreement
-
-// Whether slots below N meet a demand on a path of so many channels (rules 4 and 5).
-fn meets(a: Asked, x: u64, words: u64, deadline: u64, len: u64) -> bool {
-    if words == 0 || deadline <= len || apart::cut(x, a.n) != x {
-        return false;
-    }
-    words <= apart::words(a.n, a.s, a.h, a.p, x)
-        && apart::largest_gap(a.n, x) <= minus(deadline, len)
-}
-
-// Whether flow f's record obeys its own rules: zeros throughout if it is closed.
-fn lawful(list: &[u8], a: Asked, f: u64) -> bool {
-    let state = number(list, f, STATE);
-    if state == 0 {
-        return zeros(list, f, 0, END);
-    }
-    let len = number(list, f, LENGTH);
-    if state != 1 || no_path(path_of(list, f), len, a.table / 64) != 0 {
-        return false;
-    }
-    if !zeros(list, f, plus(PATH, len), SLOTS) || !zeros(list, f, REST, END) {
-        return false;
-    }
-    let words = number(list, f, WORDS);
-    meets(a, slots(list, f), words, number(list, f, DEADLINE), len)
-}
-
-// Paints the cells of flow f; whether its record obeys its own rules and no cell is claimed twice.
-fn paint_flow(cells: &mut [u8], list: &[u8], a: Asked, f: u64) -> bool {
-    lawful(list, a, f) && mark(cells, list, a.n, f, f)
-}
-
-// Paints the cells of all flows into an empty table, as long as that goes well.
-fn paint(cells: &mut [u8], list: &[u8], a: Asked) -> bool {
-    let last = a.list / 64;
-    let mut f = 0;
-    while f < last {
-        f += 1;
-        if !paint_flow(cells, list, a, f) {
-            return false;
-        }
-    }
-    true
-}
-
-// Whether table and list agree.
-fn agree(table: &[u8], list: &[u8], a: Asked) -> bool {
-    let mut cells = room();
-    paint(&mut cells, list, a) && same(table, &cells)
+// Table and list, as a call sees them, on its wheel.
+#[derive(Clone, Copy)]
+struct Lent<'a> {
+    wheel: Wheel,
+    table: &'a [u8],
+    list: &'a [u8],
 }
 
 // Whether so many bytes are 64 for each of 1 to 64 channels or flows.
-fn rows(size: u64) -> bool {
-    size % 64 == 0 && 64 <= size && size <= 4096
+pub fn is_rows(size: usize) -> bool {
+    size % ROW == 0 && ROW <= size && size <= MOST
 }
 
-// What is wrong with wheel, table and list: 1, 2, 3, 4, or 0 for nothing.
-fn no_state(table: &[u8], list: &[u8], a: Asked) -> u64 {
-    if !apart::fits(a.n, a.s, a.h, a.p) {
-        return 1;
+impl<'a> Lent<'a> {
+    // How many channels there are.
+    fn channels(self) -> usize {
+        self.table.len() / ROW
     }
-    if !rows(a.table) {
-        return 2;
-    }
-    if !rows(a.list) {
-        return 3;
-    }
-    if agree(table, list, a) { 0 } else { 4 }
-}
 
-// ---- rule 1: the free slots of a path
-
-// Whether slot s of the path is free.
-fn is_free(table: &[u8], n: u64, path: [u16; 16], len: u64, s: u64) -> bool {
-    let mut i = 0;
-    while i < len {
-        if byte(table, cell_at(n, entry(path, i), i, s)) != 0 {
-            return false;
+    // The table as the list has it: the cells of all flows painted into an empty table; or that they
+    // cannot be, since a record does not obey its own rules or a cell is claimed twice.
+    fn painted(self) -> Result<[u8; MOST], No> {
+        let mut cells: [u8; MOST] = [0; MOST];
+        for (f, bytes) in (1..=64).zip(self.list.chunks_exact(ROW)) {
+            let record = Record::read(bytes);
+            if !record.is_lawful(self.wheel, self.channels())
+                || !record.mark(&mut cells, self.wheel.n, f)
+            {
+                return Err(No::Disagree);
+            }
         }
-        i += 1;
+        Ok(cells)
     }
-    true
-}
 
-// Slot s alone if it is free, else the empty set.
-fn only_free(table: &[u8], n: u64, path: [u16; 16], len: u64, s: u64) -> u64 {
-    if 64 <= s || !is_free(table, n, path, len, s) {
-        return 0;
+    // What is wrong with wheel, table and list.
+    fn check(self) -> Result<(), No> {
+        if !self.wheel.fits() {
+            return Err(No::BadWheel);
+        }
+        if !is_rows(self.table.len()) {
+            return Err(No::BadTable);
+        }
+        if !is_rows(self.list.len()) {
+            return Err(No::BadList);
+        }
+        if !self.painted()?.starts_with(self.table) {
+            return Err(No::Disagree);
+        }
+        Ok(())
     }
-    1 << (s % 64)
-}
 
-// The free slots.
-fn free(table: &[u8], n: u64, path: [u16; 16], len: u64) -> u64 {
-    let mut x = 0;
-    let mut s = 0;
-    while s < n {
-        x = x | only_free(table, n, path, len, s);
-        s += 1;
+    // The record of flow f; the first flow is 1.
+    fn record(self, f: u64) -> Result<Record, No> {
+        let place = f.checked_sub(1).ok_or(No::NoFlow)?;
+        let bytes = self.list.chunks_exact(ROW).nth(place as usize);
+        Ok(Record::read(bytes.ok_or(No::NoFlow)?))
     }
-    x
+
+    // Whether slot s of the path is free (rule 1).
+    fn is_free(self, path: &Path, s: u64) -> bool {
+        path.used().iter().enumerate().all(|(i, channel)| {
+            self.table.get(cell_at(self.wheel.n, *channel, i, s)) == Some(&0)
+        })
+    }
+
+    // The free slots of the path.
+    fn free(self, path: &Path) -> u64 {
+        let mut slots = 0;
+        for s in 0..self.wheel.n.min(64) {
+            if self.is_free(path, s) {
+                slots |= 1 << s;
+            }
+        }
+        slots
+    }
+
+    // The best set for an opening, or what is wrong with it.
+    fn opening(self, asked: &Asked) -> Result<Grant, No> {
+        self.check()?;
+        asked.path.check(self.channels())?;
+        if self.record(asked.flow)?.state == 1 {
+            return Err(No::AlreadyOpen);
+        }
+        let demand = asked.demand;
+        if demand.words == 0 {
+            return Err(No::NoWords);
+        }
+        if demand.deadline <= asked.path.len {
+            return Err(No::NoLimit);
+        }
+        exact::select(apart::Asked {
+            wheel: self.wheel,
+            free: self.free(&asked.path),
+            words: demand.words,
+            limit: demand.deadline - asked.path.len,
+        })
+    }
+
+    // The record that a closing of flow f is to clear, or what is wrong with the closing.
+    fn closing(self, f: u64) -> Result<Record, No> {
+        self.check()?;
+        let record = self.record(f)?;
+        if record.state != 1 {
+            return Err(No::NotOpen);
+        }
+        Ok(record)
+    }
+
+    // The cells that are 0 among the first N of every row.
+    fn free_cells(self) -> u64 {
+        let n = self.wheel.n as usize;
+        self.table
+            .chunks_exact(ROW)
+            .map(|row| row.iter().take(n).filter(|cell| **cell == 0).count() as u64)
+            .fold(0, u64::wrapping_add)
+    }
+
+    // The cells that the flows hold.
+    fn held_cells(self) -> u64 {
+        self.list
+            .chunks_exact(ROW)
+            .map(|bytes| Record::read(bytes).cells())
+            .fold(0, u64::wrapping_add)
+    }
+
+    // Counts free and held cells.
+    fn report(self) -> Reply {
+        self.check()?;
+        Ok(Yes::Counted {
+            free: self.free_cells(),
+            held: self.held_cells(),
+        })
+    }
+
+    // Whether table and list agree.
+    fn agree(self) -> Reply {
+        self.check()?;
+        Ok(Yes::Agreed)
+    }
 }
 
 // ---- the calls
 
-// A no.
-pub fn refused(no: u64) -> Reply {
-    answered(no, 0, 0, 0)
-}
-
-// An answer.
-pub fn answered(no: u64, one: u64, two: u64, three: u64) -> Reply {
-    Reply {
-        no,
-        one,
-        two,
-        three,
-    }
-}
-
-// Whether two answers are the same.
-pub fn same_reply(a: Reply, b: Reply) -> bool {
-    a.no == b.no && a.one == b.one && a.two == b.two && a.three == b.three
-}
-
-// Whether the list has the flow asked for.
-fn is_there(a: Asked) -> bool {
-    1 <= a.flow && a.flow <= a.list / 64
-}
-
-// What is wrong with an opening, all but the free slots: 1 to 12, or 0 for nothing.
-fn no_open(table: &[u8], list: &[u8], a: Asked) -> u64 {
-    let no = no_state(table, list, a);
-    if no != 0 {
-        return no;
-    }
-    let path = a.path;
-    let off = no_path(path, a.len, a.table / 64);
-    if off != 0 {
-        return off;
-    }
-    if !is_there(a) {
-        return 8;
-    }
-    if number(list, a.flow, STATE) == 1 {
-        return 9;
-    }
-    if a.words == 0 {
-        return 11;
-    }
-    if a.deadline <= a.len { 12 } else { 0 }
-}
-
-// The best set of the path's free slots, or 13 or 14.
-fn best(table: &[u8], a: Asked) -> Found {
-    let path = a.path;
-    let x = free(table, a.n, path, a.len);
-    exact::search(a.n, a.s, a.h, a.p, x, a.words, minus(a.deadline, a.len))
-}
-
-// Writes record and cells of the flow asked for, with these slots.
-pub fn write(table: &mut [u8], list: &mut [u8], a: Asked, x: u64) {
-    put_open(list, a, x);
-    mark(table, list, a.n, a.flow, a.flow);
+// Makes the record of the flow asked for open, with these slots, and writes its cells.
+pub fn write(table: &mut [u8], list: &mut [u8], asked: &Asked, slots: u64) {
+    let record = Record::opened(&asked.path, asked.demand, slots);
+    record.write(list, asked.flow);
+    record.mark(table, asked.wheel.n, (asked.flow % 256) as u8);
 }
 
 // Opens the flow.
-fn open(table: &mut [u8], list: &mut [u8], a: Asked) -> Reply {
-    let no = no_open(table, list, a);
-    if no != 0 {
-        return refused(no);
-    }
-    let f = best(table, a);
-    if f.no != 0 {
-        return refused(f.no);
-    }
-    write(table, list, a, f.slots);
-    answered(0, f.slots, f.count, f.words)
-}
-
-// What is wrong with a closing: 1, 2, 3, 4, 8, 10, or 0 for nothing.
-fn no_close(table: &[u8], list: &[u8], a: Asked) -> u64 {
-    let no = no_state(table, list, a);
-    if no != 0 {
-        return no;
-    }
-    if !is_there(a) {
-        return 8;
-    }
-    if number(list, a.flow, STATE) == 1 {
-        0
-    } else {
-        10
-    }
+fn open(table: &mut [u8], list: &mut [u8], asked: &Asked) -> Reply {
+    let lent = Lent {
+        wheel: asked.wheel,
+        table,
+        list,
+    };
+    let grant = lent.opening(asked)?;
+    write(table, list, asked, grant.slots);
+    Ok(Yes::Granted(grant))
 }
 
 // Closes the flow.
-fn close(table: &mut [u8], list: &mut [u8], a: Asked) -> Reply {
-    let no = no_close(table, list, a);
-    if no != 0 {
-        return refused(no);
-    }
-    let cells = cells_of(list, a.flow);
-    mark(table, list, a.n, a.flow, 0);
-    put_closed(list, a.flow);
-    answered(0, cells, 0, 0)
+fn close(table: &mut [u8], list: &mut [u8], asked: &Asked) -> Reply {
+    let lent = Lent {
+        wheel: asked.wheel,
+        table,
+        list,
+    };
+    let record = lent.closing(asked.flow)?;
+    record.mark(table, asked.wheel.n, 0);
+    Record::default().write(list, asked.flow);
+    Ok(Yes::Cleared(record.cells()))
 }
 
-// 1 if byte i is a cell among the first n of its row and 0, else 0.
-fn one_if_free(table: &[u8], n: u64, i: u64) -> u64 {
-    if i % 64 < n && byte(table, i) == 0 {
-        1
-    } else {
-        0
-    }
-}
-
-// The cells that are 0 among the first n of every row.
-fn free_cells(table: &[u8], n: u64, size: u64) -> u64 {
-    let mut sum = 0;
-    let mut i = 0;
-    while i < size {
-        sum = plus(sum, one_if_free(table, n, i));
-        i += 1;
-    }
-    sum
-}
-
-// The cells that the flows hold.
-fn held_cells(list: &[u8], count: u64) -> u64 {
-    let mut sum = 0;
-    let mut f = 0;
-    while f < count {
-        f += 1;
-        sum = plus(sum, cells_of(list, f));
-    }
-    sum
-}
-
-// Counts free and held cells.
-fn report(table: &[u8], list: &[u8], a: Asked) -> Reply {
-    let no = no_state(table, list, a);
-    if no != 0 {
-        return refused(no);
-    }
-    let free = free_cells(table, a.n, a.table);
-    answered(0, free, held_cells(list, a.list / 64), 0)
-}
-
-// A call on table and list, of which it sees so many bytes as it is lent.
-pub fn answer(call: Call, table: &mut [u8], list: &mut [u8], a: Asked) -> Reply {
-    let t = least(a.table, table.len());
-    let l = least(a.list, list.len());
-    let part = &mut table[0..t];
-    let records = &mut list[0..l];
+// A call on table and list, of which it sees so many bytes as are asked for.
+pub fn answer(call: Call, table: &mut [u8], list: &mut [u8], asked: &Asked) -> Reply {
+    let table = lent_part(table, asked.table);
+    let list = lent_part(list, asked.list);
+    let wheel = asked.wheel;
     match call {
-        Call::Open => open(part, records, a),
-        Call::Close => close(part, records, a),
-        Call::Report => report(part, records, a),
-        Call::Agree => refused(no_state(part, records, a)),
+        Call::Open => open(table, list, asked),
+        Call::Close => close(table, list, asked),
+        Call::Report => Lent { wheel, table, list }.report(),
+        Call::Agree => Lent { wheel, table, list }.agree(),
     }
 }
 
-// Where the row of a channel stands and how many cells it has; 1 for a bad wheel, table or channel.
-pub fn row(a: Asked, channel: u64) -> Reply {
-    if !apart::fits(a.n, a.s, a.h, a.p) || !rows(a.table) || a.table / 64 <= channel {
-        return refused(1);
+// The row of a channel; none for a bad wheel, table or channel.
+pub fn row(asked: &Asked, channel: u64) -> Option<Part> {
+    if !asked.wheel.fits() || !is_rows(asked.table) || (asked.table / ROW) as u64 <= channel {
+        return None;
     }
-    answered(0, (channel % 64) * 64, a.n, 0)
-}
-
-// Bare selection.
-pub fn select(a: Asked, free: u64, limit: u64) -> Reply {
-    let f = exact::search(a.n, a.s, a.h, a.p, free, a.words, limit);
-    answered(f.no, f.slots, f.count, f.words)
+    Some(Part {
+        at: channel * 64,
+        cells: asked.wheel.n,
+    })
 }

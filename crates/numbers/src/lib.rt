@@ -10,21 +10,5 @@ use rules::Refusal;
 pub fn number(r: Refusal) -> u8
     ensures { result ≡ number r }
 {
-    match r {
-        Refusal::BadWheel => 1,
-        Refusal::BadTable => 2,
-        Refusal::BadList => 3,
-        Refusal::Disagree => 4,
-        Refusal::PathLength => 5,
-        Refusal::NoChannel => 6,
-        Refusal::ChannelTwice => 7,
-        Refusal::NoFlow => 8,
-        Refusal::AlreadyOpen => 9,
-        Refusal::NotOpen => 10,
-        Refusal::NoWords => 11,
-        Refusal::NoTime => 12,
-        Refusal::TooMuch => 13,
-        Refusal::TooFar => 14,
-        Refusal::SlotBeyond => 15,
-    }
+    r as u8
 }

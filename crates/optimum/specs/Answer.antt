@@ -1,9 +1,10 @@
 -- What the search over all starts answers. If it found a set, that one is best; if not, no set but the full wheel meets the
 -- demand, so that the free slots are all slots, and best.
-use Rattle.std.specs.Prelude.{◌≡◌, refl, Bool, true, false, ◌⊎◌, ℕ, ◌+◌, ◌-◌, ◌≤◌, ◌<◌, min}
-use Rattle.std.proofs.Common.{sym, ap, ◌∙◌, inl, inr, ⊎_elim, arith}
+use Rattle.std.specs.Prelude.{◌≡◌, refl, Bool, true, false, ◌⊎◌, ℕ, ◌+◌, ◌-◌, ◌≤◌, ◌<◌, min, Some, None}
+use Rattle.std.proofs.Common.{sym, ap, ◌∙◌, inl, inr, arith}
 use Rattle.rules.specs.declared.Wheel.{Wheel}
 use Rattle.rules.specs.declared.Grant.{Grant}
+use Rattle.rules.specs.declared.Words.{Words}
 use Rattle.rules.specs.Sets.{has, Within, Below}
 use Rattle.rules.specs.Wheels.{Legal, chosen, size, full, words}
 use Rattle.rules.specs.Best.{Meets, Best, smallest_start}
@@ -14,13 +15,13 @@ use Rattle.laws.specs.Turns.{chosen_below, start_both}
 use Rattle.laws.specs.Runs.{full_each}
 use Rattle.laws.specs.Gaps.{gap_most}
 use Rattle.line.specs.declared.Task.{Task}
+use Rattle.line.specs.Asked.{Asked}
 use Rattle.line.specs.Values.{N, L}
-use Rattle.line.specs.Tables.{Sound}
 use Rattle.optimum.specs.declared.Found.{Found}
 use Rattle.optimum.specs.Starts.{has_smallest, size_full, size_less}
 use Rattle.optimum.specs.Rival.{rival_worth}
 use Rattle.optimum.specs.Best.{Optimum, greedy_best, greedy_size, greedy_words}
-use Rattle.optimum.specs.Search.{Sofar, Holds}
+use Rattle.optimum.specs.Search.{Sofar}
 
 -- a demand that the free slots meet
 pub record Meetable (w : Wheel) (free W L : ℕ) : Type 0 where
@@ -30,14 +31,15 @@ pub record Meetable (w : Wheel) (free W L : ℕ) : Type 0 where
   pub l1 : 1 ≤ L
   pub meets : Meets w W L free
 
--- the search for one, with L cut at N, is sound
-pub sound : (t : Task) (limit : ℕ) → L t ≡ min limit (N t) → Meetable t.wheel t.free t.words.0 limit → 2 ≤ N t → Sound t
-sound t limit el a two =
+-- the search for one, with the limit cut at n, is sound
+pub sound : (w : Wheel) (free : ℕ) (wanted : Words) (limit cut : ℕ) → cut ≡ min limit w.n → Meetable w free wanted.0 limit → 2 ≤ w.n
+    → Asked w free wanted cut
+sound w free wanted limit cut e a two =
     record {
       legal = a.legal;
       two = two;
       some = a.some;
-      l1 = omega (arith, a.l1);
+      l1 = omega (arith, a.l1, a.legal.n1);
       l64 = omega (arith, a.legal.n64);
       fit = a.fit;
     }
@@ -90,38 +92,39 @@ module _ (w : Wheel) (n1 : 1 ≤ w.n) (free W L : ℕ) where
 
 -- ---- after all starts
 
-module _ (t : Task) (limit : ℕ) (el : L t ≡ min limit (N t)) (a : Meetable t.wheel t.free t.words.0 limit) (two : 2 ≤ N t)
-    (b : Found) (z : Sofar t (N t) b) where
-  good : Sound t
-  good = sound t limit el a two
-
-  pub none_grants : b.value ≡ 0 → (g : Grant) → g.slots ≡ t.free → g.count ≡ N t → g.words.0 ≡ words t.wheel t.free
+module _ (t : Task) (limit : ℕ) (el : L t ≡ min limit (N t)) (a : Meetable t.wheel t.free t.words.0 limit) where
+  pub none_grants : Sofar t (N t) None → (g : Grant) → g.slots ≡ t.free → g.count ≡ N t → g.words.0 ≡ words t.wheel t.free
       → Grants t.wheel t.free t.words.0 limit g
-  none_grants v0 = whole_grants t.wheel t.free t.words.0 limit a λ y yin ym. go y yin ym (full (N t) y) refl
+  none_grants z = whole_grants t.wheel t.free t.words.0 limit a λ y yin ym. go y yin ym (full (N t) y) refl
     where
-      none : b.count ≡ N t
-      none = ⊎_elim (λ e. e.0) (λ f. absurd (omega (arith, f.over))) z.found
-
       go : (y : ℕ) → Within t.free y → Meets t.wheel t.words.0 limit y → (c : Bool) → full (N t) y ≡ c → c ≡ true
       go y yin ym true e = refl
       go y yin ym false e =
           let u = smallest_start (N t) y in
-          let (st, un) = has_smallest t.wheel y e (omega (arith, ym.delivers, good.some)) in
-          let clipped = rw (← el) at (clip t.wheel good.legal.n1 t.free t.words.0 limit y ym) in
-          let few = size_less (N t) y u good.legal.n1 (start_both (N t) y u st).1 in
+          let (st, un) = has_smallest t.wheel y e (omega (arith, ym.delivers, t.sound.some)) in
+          let clipped = rw (← el) at (clip t.wheel t.sound.legal.n1 t.free t.words.0 limit y ym) in
+          let few = size_less (N t) y u t.sound.legal.n1 (start_both (N t) y u st).1 in
           absurd (omega (
             arith,
-            rival_worth t good y u st yin clipped.near,
-            z.fewest (size (N t) y) u (omega (arith, none)) un,
+            rival_worth t t.sound y u st yin clipped.near,
+            z.fewest (size (N t) y) u few un,
             ym.delivers,
           ))
 
-  pub found_grants : (b.value ≡ 0 → ⊥) → (g : Grant) → g.slots ≡ b.slots → g.count ≡ b.count → g.words.0 ≡ b.value - 1
+  pub found_grants : (b : Found) → Sofar t (N t) (Some b) → (g : Grant) → g.slots ≡ b.slots → g.count ≡ b.count → g.words.0 ≡ b.value - 1
       → Grants t.wheel t.free t.words.0 limit g
-  found_grants nz g es ec ew = go z.found
+  found_grants b z g es ec ew =
+      let set = es ∙ z.found.set in
+      let best = greedy_best t t.sound b.start.0 b.count (b.value - 1) optimum in
+      record {
+        best = rw set (best_clip t.wheel t.sound.legal.n1 t.free t.words.0 limit _ (rw (← el) best));
+        count = ec ∙ sym (ap (size (N t)) set ∙ greedy_size t t.sound b.start.0 b.count (b.value - 1) optimum);
+        words = ew ∙ sym (ap (words t.wheel) set ∙ greedy_words t t.sound b.start.0 b.count (b.value - 1) optimum);
+      }
     where
-      optimum : Holds t (N t) b → Optimum t b.start.0 b.count (b.value - 1)
-      optimum f =
+      optimum : Optimum t b.start.0 b.count (b.value - 1)
+      optimum =
+          let f = z.found in
           record {
             within = f.seen;
             value = omega (arith, f.worth, f.over);
@@ -129,16 +132,4 @@ module _ (t : Task) (limit : ℕ) (el : L t ≡ min limit (N t)) (a : Meetable t
             fewest = z.fewest;
             most = λ u h. omega (arith, f.most u h);
             earliest = λ u h. omega (arith, f.first u h);
-          }
-
-      go : ((b.count ≡ N t) × (b.value ≡ 0)) ⊎ Holds t (N t) b → Grants t.wheel t.free t.words.0 limit g
-      go (inl e) = absurd (nz e.1)
-      go (inr f) =
-          let o = optimum f in
-          let set = es ∙ f.set in
-          let best = greedy_best t good b.start.0 b.count (b.value - 1) o in
-          record {
-            best = rw set (best_clip t.wheel good.legal.n1 t.free t.words.0 limit _ (rw (← el) best));
-            count = ec ∙ sym (ap (size (N t)) set ∙ greedy_size t good b.start.0 b.count (b.value - 1) o);
-            words = ew ∙ sym (ap (words t.wheel) set ∙ greedy_words t good b.start.0 b.count (b.value - 1) o);
           }

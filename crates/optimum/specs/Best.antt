@@ -2,10 +2,7 @@
 -- slots, none does better with as many, and none before it does as well. The greedy choice there is then the best set:
 -- a rival with as many slots, as many words and the same smallest start is a choice of the same line, so greedy comes first.
 use Rattle.std.specs.Prelude.{◌≡◌, refl, Bool, true, false, List, ◌∷◌, ◌⊎◌}
-use Rattle.std.proofs.Math.Path.{sym, ap, subst}
-use Rattle.std.proofs.Common.{◌∙◌, subst₂, arith}
-use Rattle.std.proofs.Math.Logic.{inl, inr, ⊎_elim}
-use Prim.Native.Nat.{ℕ, suc, pred, ◌+◌, ◌-◌, ◌≤◌, ◌<◌}
+use Rattle.std.proofs.Common.{◌∙◌, subst₂, arith, sym, ap, subst, inl, inr, ⊎_elim, ℕ, suc, pred, ◌+◌, ◌-◌, ◌≤◌, ◌<◌}
 use Rattle.rules.specs.Sets.{Within, places}
 use Rattle.rules.specs.Wheels.{chosen, start, size, full, words, gap}
 use Rattle.rules.specs.Best.{Meets, Best, Better, fewer, more, sooner, closer, Before, smallest_start, distances}

@@ -1,11 +1,7 @@
 -- The gap rule of a set, read from one of its slots: no gap exceeds L if and only if the flags after that slot are a choice
 -- of the linear problem, the gap over the wrap included.
 use Rattle.std.specs.Prelude.{◌≡◌, Bool, List, ◌∷◌, ◌⊎◌}
-use Rattle.std.proofs.Math.Path.{refl, ap}
-use Rattle.std.proofs.Common.{sym, ◌∙◌, subst, ⊎_elim, arith, add-suc, eq-or-lt_of_le}
-use Rattle.std.proofs.Math.Bool.{true, false, not}
-use Rattle.std.proofs.Math.Logic.{inl, inr}
-use Prim.Native.Nat.{ℕ, zero, suc, ◌+◌, ◌-◌, ◌≤◌, ◌<◌}
+use Rattle.std.proofs.Common.{sym, ◌∙◌, subst, ⊎_elim, arith, add-suc, eq-or-lt_of_le, refl, ap, true, false, not, inl, inr, ℕ, zero, suc, ◌+◌, ◌-◌, ◌≤◌, ◌<◌}
 use Rattle.rules.specs.Sets.{stretch}
 use Rattle.rules.specs.Wheels.{chosen, gap}
 use Rattle.laws.specs.Logic.{not_both}

@@ -1,9 +1,8 @@
 -- How many starts are enough. Where slot z is not free, every set that keeps the gap rule has a start before z + L; so a line
 -- that is cut at a later start is worth no more than one that was cut before. Where all slots are free, the line is the same
 -- at every start.
-use Rattle.std.specs.Prelude.{◌≡◌, refl, Bool, true, false, ◌∷◌, ◌⊎◌, ℕ, zero, suc, ◌+◌, ◌-◌, ◌%◌, ◌≤◌, ◌<◌, min}
-use Rattle.std.proofs.Common.{sym, ap, ◌∙◌, subst, inl, inr, arith, zero-add, mod-lt}
-use Rattle.std.proofs.Math.Path.{ap₂}
+use Rattle.std.specs.Prelude.{◌≡◌, refl, Bool, true, false, ◌∷◌, ◌⊎◌, ℕ, zero, suc, ◌+◌, ◌-◌, ◌%◌, ◌≤◌, ◌<◌, min, Option}
+use Rattle.std.proofs.Common.{sym, ap, ◌∙◌, subst, inl, inr, arith, zero-add, mod-lt, ap₂}
 use Rattle.rules.specs.Sets.{has}
 use Rattle.rules.specs.Wheels.{chosen}
 use Rattle.laws.specs.Logic.{le_or_lt, not_both, not_true_false}
@@ -22,7 +21,7 @@ use Rattle.optimum.specs.Search.{Sofar, sofar_on}
 -- the best of the starts below u is the best of all
 pub record Enough (t : Task) (u : ℕ) : Type 0 where
   pub range : u ≤ N t
-  pub all : (b : Found) → Sofar t u b → Sofar t (N t) b
+  pub all : (b : Option Found) → Sofar t u b → Sofar t (N t) b
 
 -- it is where for every start there is one below u that is worth as much
 covered : (t : Task) (u : ℕ) → u ≤ N t → ((v k : ℕ) → v < N t → (s : ℕ) × (s < u) × (head t v 0 k ≤ head t s 0 k)) → Enough t u
@@ -30,9 +29,9 @@ covered t u un same =
     record {
       range = un;
       all = λ b known.
-          sofar_on (N t) un known
+          sofar_on b (N t) un known
           (λ j v h l. let (s, su, worth) = same v j l in omega (arith, known.fewest j s h su))
-          (λ f v l. let (s, su, worth) = same v b.count l in omega (arith, f.most s su));
+          (λ f e h v l. let (s, su, worth) = same v f.count l in omega (arith, h.most s su));
     }
 
 -- ---- a slot that is not free

@@ -1,14 +1,8 @@
 -- The set of a choice: its slots are the start and those that the choice takes. It lies within the free slots, starts at
 -- the start, keeps the gap rule, and has the size and the words of the choice.
 use Rattle.std.specs.Prelude.{◌≡◌, Bool, false, ◌⊎◌, leb, length}
-use Rattle.std.proofs.Math.Path.{refl, sym, ap, ap₂, subst}
-use Rattle.std.proofs.Common.{◌∙◌, inl, inr, add-suc, suc-add, add-zero, zero-add, mod-lt, pow-suc, lt_of_lt_of_le, add-one, one-add, pow_mono, le-leb}
-use Rattle.std.proofs.Math.Bool.{true, cond}
-use mathlib.Core.List.{List, [], ◌∷◌}
-use Prim.Native.Nat.{ℕ, zero, suc, pred, ◌+◌, ◌-◌, ◌*◌, ◌%◌, ◌^◌, ◌≤◌, ◌<◌}
-use native.Mathlib.Omega.{arith}
-use Rattle.std.proofs.Math.Nat.{mod-eq_of_lt, mod-eq-sub-mod, add-mod_right}
-use Rattle.std.proofs.Math.ListN.{get_or}
+use Rattle.std.proofs.Common.{◌∙◌, inl, inr, add-suc, suc-add, add-zero, zero-add, mod-lt, pow-suc, lt_of_lt_of_le, add-one, one-add, pow_mono, le-leb, refl, sym, ap, ap₂, subst, true, cond, List, [], ◌∷◌, ℕ, zero, suc, pred, ◌+◌, ◌-◌, ◌*◌, ◌%◌, ◌^◌, ◌≤◌, ◌<◌, arith, mod-eq_of_lt, get_or}
+use Rattle.std.proofs.Math.Nat.{mod-eq-sub-mod, add-mod_right}
 use Rattle.std.proofs.lemmas.Bool.{lt-leb}
 use Rattle.rules.specs.Sets.{has, set_of, sum, stretch, Within}
 use Rattle.rules.specs.Wheels.{chosen, start, size, words, gap}

@@ -1,11 +1,7 @@
 -- A set of free slots that keeps the gap rule is a choice of the line at each of its starts, with its size and its words.
 -- So it is worth no more there than the line's value.
 use Rattle.std.specs.Prelude.{◌≡◌, Bool, List, ◌∷◌, ◌⊎◌}
-use Rattle.std.proofs.Math.Path.{ap}
-use Rattle.std.proofs.Common.{◌∙◌, inl, inr, add-zero, eq-or-lt_of_le, add-one}
-use Rattle.std.proofs.Math.Bool.{true}
-use Prim.Native.Nat.{ℕ, suc, ◌+◌, ◌-◌, ◌%◌, ◌≤◌, ◌<◌}
-use native.Mathlib.Omega.{arith}
+use Rattle.std.proofs.Common.{◌∙◌, inl, inr, add-zero, eq-or-lt_of_le, add-one, ap, true, ℕ, suc, ◌+◌, ◌-◌, ◌%◌, ◌≤◌, ◌<◌, arith}
 use Rattle.rules.specs.Sets.{Within}
 use Rattle.rules.specs.Wheels.{chosen, start, size, words, gap}
 use Rattle.laws.specs.Logic.{not_both}

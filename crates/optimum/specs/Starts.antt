@@ -1,8 +1,6 @@
 -- The smallest start, and the flags of a set read from a start: their number, their places, and which of two comes first.
 use Rattle.std.specs.Prelude.{◌≡◌, refl, Bool, true, false, cond, List, [], ◌∷◌, ◌⊎◌, ℕ, zero, suc, ◌+◌, ◌-◌, ◌≤◌, ◌<◌}
-use Rattle.std.proofs.Common.{sym, ◌∙◌, inl, inr, arith, add-suc, suc-add, add-zero, zero-add}
-use Rattle.std.proofs.Math.Path.{ap}
-use Rattle.std.proofs.Math.Bool.{not}
+use Rattle.std.proofs.Common.{sym, ◌∙◌, inl, inr, arith, add-suc, suc-add, add-zero, zero-add, ap, not}
 use borrow.Author.Tests.{not-true, not-false}
 use Rattle.rules.specs.declared.Wheel.{Wheel}
 use Rattle.rules.specs.Sets.{has, places, Below}

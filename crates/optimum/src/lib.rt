@@ -5,8 +5,8 @@
 
 use rules::PathSlot;
 
-// The best choice so far: how many slots, its value, its start and its set. A value is the words
-// plus one; it is 0 while nothing is found, and `count` is then N.
+// A choice that a search has found: how many slots, its value, its start and its set. A value is the
+// words plus one.
 #[derive(Clone, Copy)]
 pub struct Found {
     pub count: usize,

@@ -1,100 +1,97 @@
-// A call on one flow, carried out: what was decided is written into the table, and the record that goes
-// into the list is handed back. A refusal has written nothing. The list itself is not seen here: each
-// form of it reads a record, calls this, and puts the new record in its place.
+// The calls, over a table and a list that the caller lends, in whatever form the list is: a call is decided,
+// what was granted is written into the table, and the flow's record is replaced. A list is never copied, and
+// a refusal has written nothing.
 #![tactic(auto)]
 
-ghost use Rattle.std.specs.Prelude.{◌≡◌, true, false, ◌-◌, ◌≤◌};
-ghost use Rattle.rules.specs.Flows.{Own};
-ghost use Rattle.perform.specs.Performed.{is_done, Markable, MarksIf, PerformsOne, ReportsOne};
+ghost use Rattle.rules.specs.Tells.{Tells};
+ghost use Rattle.rules.specs.Paths.{chip_of};
+ghost use Rattle.rules.specs.Orders.{Agrees, opening, closing};
+ghost use Rattle.rules.specs.Promises.{of_opened, of_cleared, Reports};
+ghost use Rattle.perform.specs.Performed.{RecordOf, PerformsOn};
 
-use decide::Gate;
-use rules::{Answer, Call, Change, Chip, Record, Reported, Totals};
+use lent::FlowList;
+use rules::{Call, Chip, Demand, Grant, Path, Record, Refusal, Totals, Wheel, Yes};
 
-// What was done for a call: the answer, and, if `go`, which record of the list to replace by what.
-#[derive(Clone, Copy)]
-pub struct Decision {
-    pub answer: Answer,
-    pub go: bool,
-    pub at: usize,
-    pub new: Record,
-}
-
-// Whether a call is granted.
-fn done(a: Answer) -> bool
-    ensures { result ≡ is_done a }
+// The record of a flow; the closed one where the list has no such flow.
+fn flow_record<T: FlowList>(list: &[T], flow: usize) -> Record
+    ensures { RecordOf (T.records list.now) (T.count list.now) flow result }
 {
-    match a {
-        Answer::Done(_) => true,
-        Answer::Refused(_) => false,
+    let none = changes::closed_record();
+    if flow < 1 || 64 < flow {
+        return none;
     }
+    lent::record_at(list, flow - 1, none)
 }
 
-// What the cells of a flow hold: its number. No list has a flow above 64.
-fn cell_of(flow: usize) -> u8
-    ensures { flow ≤ 64 → result ≡ flow }
-{
-    if flow <= 64 { flow as u8 } else { 0 }
-}
-
-// a - b, and 0 where b is more.
-fn less(a: usize, b: usize) -> usize
-    ensures { result ≡ a - b }
-{
-    if b < a { a - b } else { 0 }
-}
-
-// Writes a change into the table, if `go`.
-fn mark_if(table: &mut [u8], chip: Chip, go: bool, c: Change)
-    requires { go ≡ true → Markable chip table.old c }
-    ensures { MarksIf chip go c table.old table.new }
-{
-    if go {
-        let path = c.path;
-        table::mark(table, chip, path, c.len, c.slots, cell_of(c.value));
-    }
-}
-
-// Performs a call on the flow whose record is r: decides, then writes the cells.
-pub fn perform_one(
+// Performs a call.
+pub fn perform<T: FlowList>(
     table: &mut [u8],
+    list: &mut [T],
     chip: Chip,
-    n: usize,
-    agreed: bool,
-    r: Record,
     call: Call,
-) -> Decision
-    requires { agreed ≡ true → Own chip r.state r }
-    ensures { PerformsOne chip table.old n (agreed ≡ false) r call table.new result }
+) -> Result<Yes, Refusal>
+    ensures { PerformsOn T.count T.records T.Put chip table.old list.old call table.new list.new result }
 {
-    let answer = decide::decide(table, chip, n, agreed, r, call);
-    let go = done(answer);
-    let c = changes::change_of(r, call, answer);
-    mark_if(table, chip, go, c);
-    let new = c.new;
-    Decision {
-        answer,
-        go,
-        at: less(call.flow, 1), // flow 1 has the first record
-        new,
-    }
+    let n = T::count(list);
+    let held = agree::held(table, list, chip);
+    let r = flow_record(list, call.flow);
+    let yes = decide::decide(table, chip, n, held, r, call)?;
+    let change = changes::change(r, call, yes);
+    table::mark(table, chip, change.path, change.slots, change.value as u8);
+    T::put(list, call.flow - 1, change.new);
+    Ok(yes)
 }
 
-// ---- the report
-
-// The report, from the number of cells that the records claim.
-pub fn report_one(table: &[u8], chip: Chip, n: usize, agreed: bool, held: usize) -> Reported
-    ensures { ReportsOne chip table.now n (agreed ≡ false) held result }
+// Opens a flow on a path with a demand.
+pub fn open<T: FlowList>(
+    table: &mut [u8],
+    list: &mut [T],
+    w: Wheel,
+    flow: usize,
+    path: Path,
+    demand: Demand,
+) -> Result<Grant, Refusal>
+    ensures { PerformsOn T.count T.records T.Put (chip_of w table.old) table.old list.old (opening path.entries path.len flow demand)
+        table.new list.new (of_opened result) }
 {
-    let g = decide::enter(table, chip, n, agreed);
-    match g {
-        Gate::Shut(q) => Reported::Refused(q),
-        Gate::Through => {
-            let w = chip.wheel;
-            let cells = chip.channels * w.n;
-            Reported::Counted(Totals {
-                free: less(cells, held),
-                held,
-            })
-        }
-    }
+    let chip = table::chip_of(table, w);
+    let call = changes::to_open(flow, path, demand);
+    changes::opened_as(perform(table, list, chip, call))
+}
+
+// Closes a flow.
+pub fn close<T: FlowList>(
+    table: &mut [u8],
+    list: &mut [T],
+    w: Wheel,
+    flow: usize,
+) -> Result<usize, Refusal>
+    ensures { PerformsOn T.count T.records T.Put (chip_of w table.old) table.old list.old (closing flow)
+        table.new list.new (of_cleared result) }
+{
+    let chip = table::chip_of(table, w);
+    let call = changes::to_close(flow);
+    changes::cleared_as(perform(table, list, chip, call))
+}
+
+// Whether wheel, table and list are good, and table and list agree.
+pub fn agree<T: FlowList>(table: &[u8], list: &[T], w: Wheel) -> bool
+    ensures { Tells result (Agrees (chip_of w table.now) table.now (T.count list.now) (T.records list.now)) }
+{
+    let chip = table::chip_of(table, w);
+    agree::held(table, list, chip).is_some()
+}
+
+// Reports free and held cells.
+pub fn report<T: FlowList>(table: &[u8], list: &[T], w: Wheel) -> Result<Totals, Refusal>
+    ensures { Reports (chip_of w table.now) table.now (T.count list.now) (T.records list.now) result }
+{
+    let chip = table::chip_of(table, w);
+    let counted = agree::held(table, list, chip);
+    let held = decide::enter(table, chip, T::count(list), counted)?;
+    let cells = chip.channels * chip.wheel.n;
+    Ok(Totals {
+        free: cells - held,
+        held,
+    })
 }

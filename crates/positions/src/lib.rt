@@ -2,26 +2,18 @@
 // what a packet there is worth. A value is the words plus one, and 0 for what cannot be.
 #![tactic(auto)]
 
-ghost use Rattle.std.specs.Prelude.{◌≡◌, ◌+◌, ◌<◌, ◌≤◌, min, max};
+ghost use Rattle.std.specs.Prelude.{◌≡◌, ◌+◌, ◌<◌, ◌≤◌, max};
 ghost use Rattle.line.specs.Values.{raised};
 ghost use Rattle.line.specs.Packets.{packet_words, opens};
-ghost use Rattle.line.specs.Tables.{Sound, FreeRun};
+ghost use Rattle.line.specs.Tables.{FreeRun};
 
-use line::Task;
-use rules::PathSlot;
+use line::{Cut, Task};
 
-// The smaller of two numbers.
-pub fn smaller(a: usize, b: usize) -> usize
-    ensures { result ≡ min a b }
-{
-    if a < b { a } else { b }
-}
-
-// The better of two values.
+// The better of two values: every choice that the tables make is made here.
 pub fn better(a: u16, b: u16) -> u16
     ensures { result ≡ max a b }
 {
-    if a < b { b } else { a }
+    a.max(b)
 }
 
 // The value v with `words` more on top of it.
@@ -34,40 +26,31 @@ pub fn raised(words: u16, v: u16) -> u16
 
 // The words of a packet of q slots.
 pub fn packet_words(task: Task, q: usize) -> u16
-    requires sound { Sound task }
-    requires le_q { (1 ≤ q) × (q ≤ 64) }
+    requires { (1 ≤ q) × (q ≤ 64) }
     ensures { result ≡ packet_words task q }
 {
     (q as u16) * task.wheel.s.0 - task.wheel.h.0
 }
 
 // Whether the slot at position d may be chosen: it is free, and not the last one.
-pub fn opens(task: Task, start: PathSlot, d: usize) -> bool
-    requires sound { Sound task }
-    requires start_lt_n { (start.0 < task.wheel.n) × (d < task.wheel.n) }
-    ensures { result ≡ opens task start.0 d }
+pub fn opens(cut: Cut, d: usize) -> bool
+    requires { d < cut.task.wheel.n }
+    ensures { result ≡ opens cut.task cut.start.0 d }
 {
-    let n = task.wheel.n;
-    if d + 1 < n {
-        slots::has_slot(task.free, (start.0 + d) % n)
-    } else {
-        false
-    }
+    let n = cut.task.wheel.n;
+    d + 1 < n && slots::has_slot(cut.task.free, (cut.start.0 + d) % n)
 }
 
 // How many slots are open from position p on.
-pub fn free_run(task: Task, start: PathSlot, p: usize) -> usize
-    requires sound { Sound task }
-    requires start_lt_n { (start.0 < task.wheel.n) × (p < task.wheel.n) }
-    ensures { (p + result < task.wheel.n) × FreeRun task start.0 p result }
+pub fn free_run(cut: Cut, p: usize) -> usize
+    requires { p < cut.task.wheel.n }
+    ensures { (p + result < cut.task.wheel.n) × FreeRun cut.task cut.start.0 p result }
 {
-    let n = task.wheel.n;
-    let mut f = 0;
-    while p + f + 1 < n {
-        if !opens(task, start, p + f) {
+    let last = cut.task.wheel.n - 1;
+    for f in 0..last - p {
+        if !opens(cut, p + f) {
             return f;
         }
-        f += 1;
     }
-    f
+    last - p
 }

@@ -1,111 +1,81 @@
-// Printing: the text of each answer at a place of a buffer, written as `texts` writes.
+// Printing: the text of each answer, put on a page.
 #![tactic(auto)]
 
-ghost use Rattle.std.specs.Prelude.{◌≡◌, ◌+◌, ◌≤◌, length};
-ghost use Rattle.rules.specs.Numbers.{number};
+ghost use Rattle.std.specs.Prelude.{◌++◌};
+ghost use Rattle.grammar.specs.Text.{field};
 ghost use Rattle.grammar.specs.Answers.{open_text, close_text, report_text, bad_text};
-ghost use Rattle.texts.specs.Puts.{Puts};
-ghost use Rattle.printing.specs.Tails.{refusal_tail, grant_tail, open_tail, close_tail, totals_text};
+ghost use Rattle.texts.specs.Puts.{Puts, Room};
+ghost use Rattle.printing.specs.Tails.{grant_tail, tail};
 
-use rules::{Cleared, Grant, Opened, Refusal, Reported, Totals};
-
-// Document 01's number of a refusal, as wide as every number here.
-fn number_of(r: Refusal) -> usize
-    ensures { result ≡ number r }
-{
-    numbers::number(r) as usize
-}
-
-// A refusal, behind the verb and the flow.
-fn put_refusal(out: &mut [u8], at: usize, r: Refusal) -> usize
-    requires { at + length (refusal_tail r) ≤ length out.old }
-    ensures { Puts out.old at (refusal_tail r) out.new result }
-{
-    texts::put_labelled(out, at, b" refused", number_of(r))
-}
-
-// The words that a grant delivers.
-fn words_of(g: Grant) -> usize
-    ensures { result ≡ g.words.0 }
-{
-    g.words.0 as usize
-}
+use rules::{Grant, Refusal, Totals, Yes};
+use texts::Page;
 
 // A grant, behind the verb and the flow.
-fn put_grant(out: &mut [u8], at: usize, g: Grant) -> usize
-    requires { at + length (grant_tail g) ≤ length out.old }
-    ensures { Puts out.old at (grant_tail g) out.new result }
+fn put_grant(page: &mut Page, grant: Grant)
+    requires { Room page.old (grant_tail grant) }
+    ensures { Puts page.old (grant_tail grant) page.new }
 {
-    let slots = texts::put(out, at, b" slots");
-    let words = texts::put_slots(out, slots, g.slots);
-    texts::put_labelled(out, words, b" words", words_of(g))
+    page.put(b" slots");
+    page.slots(grant.slots);
+    page.labelled(b" words", usize::from(grant.words.0));
 }
 
-// What opening answers, behind the verb and the flow.
-fn put_opened(out: &mut [u8], at: usize, a: Opened) -> usize
-    requires { at + length (open_tail a) ≤ length out.old }
-    ensures { Puts out.old at (open_tail a) out.new result }
+// What a call answers, behind the verb and the flow.
+fn put_tail(page: &mut Page, answer: Result<Yes, Refusal>)
+    requires { Room page.old (tail answer) }
+    ensures { Puts page.old (tail answer) page.new }
 {
-    match a {
-        Opened::Granted(g) => put_grant(out, at, g),
-        Opened::Refused(r) => put_refusal(out, at, r),
+    match answer {
+        Ok(Yes::Granted(grant)) => put_grant(page, grant),
+        Ok(Yes::Cells(cells)) => page.labelled(b" cells", cells),
+        Err(reason) => page.labelled(b" refused", usize::from(numbers::number(reason))),
     }
 }
 
-// What closing answers, behind the verb and the flow.
-fn put_cleared(out: &mut [u8], at: usize, a: Cleared) -> usize
-    requires { at + length (close_tail a) ≤ length out.old }
-    ensures { Puts out.old at (close_tail a) out.new result }
+// The line for a call on a flow.
+fn put_answer(page: &mut Page, verb: &[u8], flow: usize, answer: Result<Yes, Refusal>)
+    requires { Room page.old ((verb.now ++ field flow) ++ tail answer) }
+    ensures { Puts page.old ((verb.now ++ field flow) ++ tail answer) page.new }
 {
-    match a {
-        Cleared::Cells(k) => texts::put_labelled(out, at, b" cells", k),
-        Cleared::Refused(r) => put_refusal(out, at, r),
-    }
-}
-
-// The totals of the table.
-fn put_totals(out: &mut [u8], at: usize, c: Totals) -> usize
-    requires { at + length (totals_text c) ≤ length out.old }
-    ensures { Puts out.old at (totals_text c) out.new result }
-{
-    let next = texts::put_labelled(out, at, b"report free", c.free);
-    texts::put_labelled(out, next, b" held", c.held)
+    page.labelled(verb, flow);
+    put_tail(page, answer);
 }
 
 // The line for an opening.
-pub fn put_open(out: &mut [u8], at: usize, flow: usize, a: Opened) -> usize
-    requires { at + length (open_text flow a) ≤ length out.old }
-    ensures { Puts out.old at (open_text flow a) out.new result }
+pub fn put_open(page: &mut Page, flow: usize, answer: Result<Grant, Refusal>)
+    requires { Room page.old (open_text flow answer) }
+    ensures { Puts page.old (open_text flow answer) page.new }
 {
-    let next = texts::put_labelled(out, at, b"open", flow);
-    put_opened(out, next, a)
+    put_answer(page, b"open", flow, answer.map(Yes::Granted));
 }
 
 // The line for a closing.
-pub fn put_close(out: &mut [u8], at: usize, flow: usize, a: Cleared) -> usize
-    requires { at + length (close_text flow a) ≤ length out.old }
-    ensures { Puts out.old at (close_text flow a) out.new result }
+pub fn put_close(page: &mut Page, flow: usize, answer: Result<usize, Refusal>)
+    requires { Room page.old (close_text flow answer) }
+    ensures { Puts page.old (close_text flow answer) page.new }
 {
-    let next = texts::put_labelled(out, at, b"close", flow);
-    put_cleared(out, next, a)
+    put_answer(page, b"close", flow, answer.map(Yes::Cells));
 }
 
 // The line for a report.
-pub fn put_report(out: &mut [u8], at: usize, a: Reported) -> usize
-    requires { at + length (report_text a) ≤ length out.old }
-    ensures { Puts out.old at (report_text a) out.new result }
+pub fn put_report(page: &mut Page, answer: Result<Totals, Refusal>)
+    requires { Room page.old (report_text answer) }
+    ensures { Puts page.old (report_text answer) page.new }
 {
-    match a {
-        Reported::Counted(c) => put_totals(out, at, c),
-        Reported::Refused(r) => texts::put_labelled(out, at, b"report refused", number_of(r)),
+    match answer {
+        Ok(totals) => {
+            page.labelled(b"report free", totals.free);
+            page.labelled(b" held", totals.held);
+        }
+        Err(reason) => page.labelled(b"report refused", usize::from(numbers::number(reason))),
     }
 }
 
 // The line for a bad line.
-pub fn put_bad(out: &mut [u8], at: usize, k: usize) -> usize
-    requires { at + length (bad_text k) ≤ length out.old }
-    ensures { Puts out.old at (bad_text k) out.new result }
+pub fn put_bad(page: &mut Page, k: usize)
+    requires { Room page.old (bad_text k) }
+    ensures { Puts page.old (bad_text k) page.new }
 {
-    let next = texts::put_labelled(out, at, b"line", k);
-    texts::put(out, next, b" bad")
+    page.labelled(b"line", k);
+    page.put(b" bad");
 }

@@ -1,5 +1,6 @@
 pub mod Meaning
 pub mod Verbs
-pub mod Paths
 pub mod Orders
+pub mod Paths
+pub mod Breaks
 pub mod Told

@@ -1,11 +1,9 @@
--- Which lines are bad: after each verb, what its fields are not; and a line with no verb in front.
-use Rattle.std.specs.Prelude.{◌≡◌, List, [], ◌∷◌, ◌++◌, ℕ, ◌≤◌, ◌<◌, length, get_or, take, drop}
-use Rattle.std.proofs.Common.{sym, ap, ◌∙◌, append-nil, arith, length-append, take-append-drop, drop_of_length-le, ext_get_or, get_or-take, length-take-le}
-use Rattle.std.proofs.Math.ListN.{get_or-append}
+-- Which lines are commands and which are bad: after each verb, what its fields are; and a line with no verb in front.
+use Rattle.std.specs.Prelude.{◌≡◌, List, [], ◌∷◌, ◌++◌, ℕ, ◌≤◌, length, get_or, drop}
+use Rattle.std.proofs.Common.{sym, ap, ◌∙◌, append-nil, arith}
 use Rattle.rules.specs.Sets.{list_of}
 use Rattle.grammar.specs.Text.{ascii, field, fields}
 use Rattle.grammar.specs.Commands.{Command, opening, closing, reporting, spelled, Few, Formed, Reads, Bad}
-use Rattle.reading.specs.Meaning.{Begins}
 
 -- the bytes of the three verbs
 abbrev pub open_bytes : List ℕ
@@ -21,70 +19,48 @@ report_bytes = 114 ∷ 101 ∷ 112 ∷ 111 ∷ 114 ∷ 116 ∷ []
 abbrev first : List ℕ → ℕ
 first line = get_or line 0 0
 
-pub not_open : (line : List ℕ) → Begins line open_bytes
-    → ((ns : List ℕ) → Few ns → length ns ≤ 19 → 3 ≤ length ns → drop 4 line ≡ fields ns → ⊥) → Bad line
+pub not_open : (rest : List ℕ) → ((ns : List ℕ) → Few ns → length ns ≤ 19 → 3 ≤ length ns → rest ≡ fields ns → ⊥) → Bad (open_bytes ++ rest)
 unfolding spelled Formed ascii list_of
-not_open line b no_fields = record { none = none }
+not_open rest no_fields = record { none = none }
   where
-    none : (c : Command) → ¬ Reads line c
+    none : (c : Command) → ¬ Reads (open_bytes ++ rest) c
     none (opening f W D cs) r = no_fields (f ∷ W ∷ D ∷ cs) r.formed.0 (omega (arith, r.formed.1)) (omega arith) (ap (drop 4) r.spelled)
-    none (closing f) r = omega (arith, ap first b.split, ap first r.spelled)
-    none reporting r = omega (arith, ap first b.split, ap first r.spelled)
+    none (closing f) r = omega (arith, ap first r.spelled)
+    none reporting r = omega (arith, ap first r.spelled)
 
-pub not_close : (line : List ℕ) → Begins line close_bytes → ((n : ℕ) → n ≤ 65535 → drop 5 line ≡ fields (n ∷ []) → ⊥) → Bad line
+pub not_close : (rest : List ℕ) → ((n : ℕ) → n ≤ 65535 → rest ≡ fields (n ∷ []) → ⊥) → Bad (close_bytes ++ rest)
 unfolding spelled Formed ascii list_of fields
-not_close line b no_field = record { none = none }
+not_close rest no_field = record { none = none }
   where
-    none : (c : Command) → ¬ Reads line c
-    none (opening f W D cs) r = omega (arith, ap first b.split, ap first r.spelled)
+    none : (c : Command) → ¬ Reads (close_bytes ++ rest) c
+    none (opening f W D cs) r = omega (arith, ap first r.spelled)
     none (closing f) r = no_field f r.formed (ap (drop 5) r.spelled ∙ sym (append-nil (field f)))
-    none reporting r = omega (arith, ap first b.split, ap first r.spelled)
+    none reporting r = omega (arith, ap first r.spelled)
 
-pub not_report : (line : List ℕ) → Begins line report_bytes → (length line ≡ 6 → ⊥) → Bad line
-unfolding spelled ascii list_of
-not_report line b more = record { none = none }
-  where
-    none : (c : Command) → ¬ Reads line c
-    none (opening f W D cs) r = omega (arith, ap first b.split, ap first r.spelled)
-    none (closing f) r = omega (arith, ap first b.split, ap first r.spelled)
-    none reporting r = more (ap length r.spelled)
-
-pub no_verb : (line : List ℕ) → ¬ Begins line open_bytes → ¬ Begins line close_bytes → ¬ Begins line report_bytes → Bad line
+pub no_verb : (line : List ℕ) → ((rest : List ℕ) → line ≡ open_bytes ++ rest → ⊥) → ((rest : List ℕ) → line ≡ close_bytes ++ rest → ⊥)
+    → (line ≡ report_bytes → ⊥) → Bad line
 unfolding spelled ascii list_of
 no_verb line a b c = record { none = none }
   where
     none : (c : Command) → ¬ Reads line c
-    none (opening f W D cs) r = a (record { split = r.spelled ∙ ap (λ xs. open_bytes ++ xs) (sym (ap (drop 4) r.spelled)) })
-    none (closing f) r = b (record { split = r.spelled ∙ ap (λ xs. close_bytes ++ xs) (sym (ap (drop 5) r.spelled)) })
-    none reporting r = c (record { split = r.spelled ∙ ap (λ xs. report_bytes ++ xs) (sym (ap (drop 6) r.spelled)) })
+    none (opening f W D cs) r = a (fields (f ∷ W ∷ D ∷ cs)) r.spelled
+    none (closing f) r = b (field f) r.spelled
+    none reporting r = c r.spelled
+
+pub not_report : (rest : List ℕ) → (length rest ≡ 0 → ⊥) → Bad (report_bytes ++ rest)
+not_report rest more =
+    no_verb (report_bytes ++ rest) (λ r e. omega (arith, ap first e)) (λ r e. omega (arith, ap first e)) (λ e. more (omega (arith, ap length e)))
 
 -- the line that is read
-pub opening_reads : (line : List ℕ) (f W D : ℕ) (cs : List ℕ) → Begins line open_bytes → Few (f ∷ W ∷ D ∷ cs) → length cs ≤ 16
-    → drop 4 line ≡ fields (f ∷ W ∷ D ∷ cs) → Reads line (opening f W D cs)
+pub opening_reads : (rest : List ℕ) (f W D : ℕ) (cs : List ℕ) → Few (f ∷ W ∷ D ∷ cs) → length cs ≤ 16
+    → rest ≡ fields (f ∷ W ∷ D ∷ cs) → Reads (open_bytes ++ rest) (opening f W D cs)
 unfolding spelled Formed ascii list_of
-opening_reads line f W D cs b few most e = record { formed = (few, most); spelled = b.split ∙ ap (λ xs. open_bytes ++ xs) e }
+opening_reads rest f W D cs few most e = record { formed = (few, most); spelled = ap (λ xs. open_bytes ++ xs) e }
 
-pub closing_reads : (line : List ℕ) (f : ℕ) → Begins line close_bytes → f ≤ 65535 → drop 5 line ≡ fields (f ∷ []) → Reads line (closing f)
+pub closing_reads : (rest : List ℕ) (f : ℕ) → f ≤ 65535 → rest ≡ fields (f ∷ []) → Reads (close_bytes ++ rest) (closing f)
 unfolding spelled Formed ascii list_of fields
-closing_reads line f b small e = record { formed = small; spelled = b.split ∙ ap (λ xs. close_bytes ++ xs) (e ∙ append-nil (field f)) }
+closing_reads rest f small e = record { formed = small; spelled = ap (λ xs. close_bytes ++ xs) (e ∙ append-nil (field f)) }
 
-pub reporting_reads : (line : List ℕ) → Begins line report_bytes → length line ≡ 6 → Reads line reporting
+pub reporting_reads : (line : List ℕ) → line ≡ report_bytes → Reads line reporting
 unfolding spelled Formed ascii list_of
-reporting_reads line b e = record { formed = tt; spelled = b.split ∙ ap (λ xs. report_bytes ++ xs) (drop_of_length-le line {i = 6} (omega arith)) }
-
--- ---- whether a line begins with a word
-
-pub begins_all : (line word : List ℕ) → length word ≤ length line → ((k : ℕ) → k < length word → get_or line k 0 ≡ get_or word k 0) → Begins line word
-begins_all line word h same =
-    let front : take (length word) line ≡ word =
-    ext_get_or 0 (take (length word) line) word (length-take-le (length word) line h)
-    λ i l.
-    let below : i < length word = omega (arith, length-take-le (length word) line h) in
-    get_or-take (length word) line i 0 below ∙ same i below in
-    record { split = sym (take-append-drop (length word) line) ∙ ap (λ xs. xs ++ drop (length word) line) front }
-
-pub begins_long : (line word : List ℕ) → Begins line word → length word ≤ length line
-begins_long line word b = omega (arith, ap length b.split, length-append word (drop (length word) line))
-
-pub begins_same : (line word : List ℕ) → Begins line word → (i : ℕ) → i < length word → get_or line i 0 ≡ get_or word i 0
-begins_same line word b i h = ap (λ l. get_or l i 0) b.split ∙ get_or-append word (drop (length word) line) 0 i h
+reporting_reads line e = record { formed = tt; spelled = e }

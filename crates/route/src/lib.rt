@@ -6,44 +6,40 @@ ghost use Rattle.std.specs.Prelude.{◌≡◌, ◌%◌, ◌≤◌, ◌<◌, get_
 ghost use Rattle.rules.specs.Wheels.{Legal};
 ghost use Rattle.rules.specs.Paths.{shift, travel};
 
-use rules::Chip;
-
-// A channel's number, as an index.
-fn wide(c: u16) -> usize
-    ensures { result ≡ c }
-{
-    c as usize
-}
+use rules::{Chip, Path};
 
 // The channel at position i.
-pub fn channel(path: [u16; 16], i: usize) -> usize
+pub fn channel(path: Path, i: usize) -> usize
     requires { i < 16 }
-    ensures { result ≡ get_or path i 0 }
+    ensures { result ≡ get_or path.entries i 0 }
 {
-    wide(path[i])
+    usize::from(path.entries[i])
 }
 
 // How many slots later the flow is at position i.
-fn shift(chip: Chip, path: [u16; 16], i: usize) -> usize
+// On this chip each channel is one slot later than the one before; a later request gives channels delays.
+#[tactic(auto, unfolding(rules::specs::Paths::shift))]
+fn shift(chip: Chip, path: Path, i: usize) -> usize
     requires { i < 16 }
-    ensures { result ≡ shift chip path i }
+    ensures { result ≡ shift chip path.entries i }
 {
     i
 }
 
 // The same, turned round the wheel.
-pub fn turn(chip: Chip, path: [u16; 16], i: usize) -> usize
+pub fn turn(chip: Chip, path: Path, i: usize) -> usize
     requires { Legal chip.wheel × (i < 16) }
-    ensures { (result ≡ shift chip path i % chip.wheel.n) × (result < chip.wheel.n) }
+    ensures { (result ≡ shift chip path.entries i % chip.wheel.n) × (result < chip.wheel.n) }
 {
-    let w = chip.wheel;
-    shift(chip, path, i) % w.n
+    shift(chip, path, i) % chip.wheel.n
 }
 
 // How many slots a path takes (rule 4).
-pub fn travel(chip: Chip, path: [u16; 16], len: usize) -> usize
-    requires { len ≤ 16 }
-    ensures { result ≡ travel chip path len }
+// On this chip each channel takes one slot; a later request gives channels delays.
+#[tactic(auto, unfolding(rules::specs::Paths::travel))]
+pub fn travel(chip: Chip, path: Path) -> usize
+    requires { path.len ≤ 16 }
+    ensures { result ≡ travel chip path.entries path.len }
 {
-    len
+    path.len
 }

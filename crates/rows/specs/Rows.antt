@@ -1,11 +1,7 @@
 -- What is done with one row, which is seen without its path: k slots later, slot s of a path is slot (s + k) mod N of the
 -- row's channel.
-use Rattle.std.specs.Prelude.{◌≡◌, Bool, ◌&&◌, ◌||◌, List, ℕ, ◌+◌, ◌%◌, ◌≤◌, ◌<◌, set, length}
-use Rattle.std.proofs.Math.Path.{refl}
+use Rattle.std.specs.Prelude.{◌≡◌, refl, Bool, true, false, cond, ◌&&◌, ◌||◌, List, ℕ, ◌+◌, ◌%◌, ◌≤◌, ◌<◌, set, length, get_or, eqb}
 use Rattle.std.proofs.Common.{sym, ◌∙◌, mod-lt, get_or-set_same, get_or-set_other, eqb-true}
-use Rattle.std.proofs.Math.Bool.{true, false, cond}
-use Rattle.std.proofs.Math.ListN.{get_or}
-use Rattle.std.proofs.Math.Dec.{eqb}
 use Rattle.std.proofs.lemmas.Bool.{eqb-false}
 use Rattle.rules.specs.Sets.{has, any}
 use Rattle.laws.specs.Search.{any_more}

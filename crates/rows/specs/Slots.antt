@@ -1,10 +1,7 @@
 -- Sets that are made slot by slot, from the highest down, and the set of all slots of a wheel.
-use Rattle.std.specs.Prelude.{◌≡◌, refl, Bool, true, ◌⊎◌, eqb}
-use Rattle.std.proofs.Common.{sym, ◌∙◌, inl, inr, zero-add, shr-shr, pow_mono}
-use Rattle.std.proofs.Math.Path.{ap}
-use Rattle.std.proofs.Math.Bool.{cond}
-use Prim.Native.Nat.{ℕ, suc, ◌+◌, ◌-◌, ◌*◌, ◌/◌, ◌%◌, ◌^◌, ◌≤◌, ◌<◌}
-use native.Mathlib.Omega.{arith}
+use Rattle.std.specs.Prelude.{◌≡◌, refl, Bool, true, false, cond, ◌⊎◌, eqb, ℕ, suc, ◌+◌, ◌-◌, ◌*◌, ◌/◌, ◌%◌, ◌^◌, ◌≤◌, ◌<◌}
+use Rattle.std.specs.Int.{from_bool}
+use Rattle.std.proofs.Common.{sym, ap, ◌∙◌, inl, inr, zero-add, shr-shr, pow_mono, lit≤, arith}
 use Rattle.rules.specs.Sets.{has, all, set_of}
 use Rattle.laws.specs.Logic.{le_or_lt}
 use Rattle.laws.specs.Search.{all_each}
@@ -20,19 +17,33 @@ set_same f g m same = same_set _ _ λ s. go s (le_or_lt m s)
     go s (inl l) = has_set_over f m 0 s l ∙ sym (has_set_over g m 0 s l)
     go s (inr l) = has_set f m 0 s l ∙ ap f (zero-add s) ∙ same s l ∙ ap g (sym (zero-add s)) ∙ sym (has_set g m 0 s l)
 
+byte_is : (b : Bool) → from_bool b ≡ cond b 1 0
+byte_is true = refl
+byte_is false = refl
+
+byte_most : (b : Bool) → from_bool b ≤ 1
+byte_most true = lit≤ tt
+byte_most false = lit≤ tt
+
 -- the slots of f from s on are in y; now slot s - 1
 module _ (f : ℕ → Bool) (n s y : ℕ) (some : 0 < s) (most : s ≤ n) (made : y ≡ set_of f s (n - s)) where
-  pub set_down : (b : Bool) → b ≡ f (s - 1) → cond b 1 0 + 2 * y ≡ set_of f (s - 1) (n - (s - 1))
+  pub set_down : (b : Bool) (d : ℕ) → b ≡ f (s - 1) → d ≡ from_bool b → 2 * y + d ≡ set_of f (s - 1) (n - (s - 1))
   unfolding set_of
-  set_down b e =
+  set_down b d e q =
       let one_more : n - (s - 1) ≡ suc (n - s) = omega arith in
       let next : suc (s - 1) ≡ s = omega arith in
-      rw (one_more, next) (ap (λ d. cond d 1 0 + 2 * y) e ∙ ap (λ z. cond (f (s - 1)) 1 0 + 2 * z) made)
+      let low : d ≡ cond (f (s - 1)) 1 0 = q ∙ byte_is b ∙ ap (λ k. cond k 1 0) e in
+      rw (one_more, next, ← made) (omega (arith, low))
 
   pub half_small : n ≤ 64 → y < 2 ^ 63
   half_small n64 =
       let fewer : n - s ≤ 63 = omega arith in
       omega (arith, made, set_small f s (n - s), pow_mono fewer)
+
+  pub set_small_down : n ≤ 64 → (b : Bool) (d : ℕ) → d ≡ from_bool b → 2 * y + d < 2 ^ 64
+  set_small_down n64 b d q =
+      let one : d ≤ 1 = rw q (byte_most b) in
+      omega (arith, half_small n64)
 
 -- the n lowest of 64 ones
 pub all_slots : (n : ℕ) → n ≤ 64 → 18446744073709551615 / 2 ^ (64 - n) ≡ set_of (λ s. true) 0 n

@@ -13,7 +13,7 @@ use Rattle.rules.specs.Paths.{Chip, cell, travel, allowed, claims, Inside, Once,
 
 -- what stands past the list's end
 abbrev pub none : Record
-none = record { state = Closed; path = []; len = 0; slots = 0 }
+none = record { state = Closed; path = record { entries = []; len = 0 }; slots = 0 }
 
 -- record f of the list
 abbrev pub flow : List Record → ℕ → Record
@@ -26,22 +26,22 @@ claiming (Open d) = true
 
 -- "a closed record has zeros there. Unused path entries are zero"
 pub record Blank (r : Record) : Type 0 where
-  pub len : r.len ≡ 0
+  pub len : r.path.len ≡ 0
   pub slots : r.slots ≡ 0
-  pub path : Rest r.path 0
+  pub path : Rest r.path.entries 0
 
 -- "each open record has a legal path without repeats, zeros in its unused path entries, W at least 1, D above its path
 -- length, chosen slots below N that meet its demand"
 pub record Lawful (chip : Chip) (d : Demand) (r : Record) : Type 0 where
-  pub some : 1 ≤ r.len
-  pub fits : r.len ≤ 16
-  pub inside : Inside chip.channels r.path r.len
-  pub once : Once r.path r.len
-  pub rest : Rest r.path r.len
+  pub some : 1 ≤ r.path.len
+  pub fits : r.path.len ≤ 16
+  pub inside : Inside chip.channels r.path.entries r.path.len
+  pub once : Once r.path.entries r.path.len
+  pub rest : Rest r.path.entries r.path.len
   pub words : 1 ≤ d.words.0
-  pub time : travel chip r.path r.len < d.deadline
+  pub time : travel chip r.path.entries r.path.len < d.deadline
   pub below : Below chip.wheel.n r.slots
-  pub meets : Meets chip.wheel d.words.0 (allowed chip r.path r.len d.deadline) r.slots
+  pub meets : Meets chip.wheel d.words.0 (allowed chip r.path.entries r.path.len d.deadline) r.slots
 
 -- a record's own rules, by its state
 unfoldable pub Own : Chip → State → Record → Type 0
@@ -50,7 +50,7 @@ Own chip (Open d) r = Lawful chip d r
 
 -- rule 7, of a record
 unfoldable pub takes : Chip → Record → ℕ → ℕ → Bool
-takes chip r c j = claiming r.state && claims chip r.path r.len r.slots c j
+takes chip r c j = claiming r.state && claims chip r.path.entries r.path.len r.slots c j
 
 -- table and list agree, n being the number of records
 pub record Agree (chip : Chip) (t : List ℕ) (n : ℕ) (list : List Record) : Type 0 where
@@ -68,7 +68,7 @@ free_cells chip t = sum (λ c. sum (λ j. cond (eqb (cell t c j) 0) 1 0) 0 chip.
 
 -- the cells of one flow: slots times path length
 unfoldable pub cells_of : Wheel → Record → ℕ
-cells_of w r = cond (claiming r.state) (size w.n r.slots * r.len) 0
+cells_of w r = cond (claiming r.state) (size w.n r.slots * r.path.len) 0
 
 -- "held is the sum over open flows of slots times path length"
 unfoldable pub held_cells : Wheel → ℕ → List Record → ℕ

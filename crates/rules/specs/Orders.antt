@@ -83,12 +83,12 @@ demand_lines chip t path m d =
 
 -- what comes before the flow: an opening's path
 abbrev pub way_lines : Chip → Call → Verb → List Line
-way_lines chip call (ToOpen d) = path_lines chip call.path call.len
+way_lines chip call (ToOpen d) = path_lines chip call.path.entries call.path.len
 way_lines chip call ToClose = []
 
 -- what the flow's state is asked, and what comes after it: 9, 11 to 14 of an opening, 10 of a closing
 abbrev pub state_lines : Chip → List ℕ → State → Call → Verb → List Line
-state_lines chip t s call (ToOpen d) = line 9 (claiming s ≡ true) ∷ demand_lines chip t call.path call.len d
+state_lines chip t s call (ToOpen d) = line 9 (claiming s ≡ true) ∷ demand_lines chip t call.path.entries call.path.len d
 state_lines chip t s call ToClose = line 10 (claiming s ≡ false) ∷ []
 
 -- the order of a call, where `disagree` is 4's condition and s the state of the flow's record
@@ -98,10 +98,10 @@ order_of chip t n disagree s call v =
 
 -- a call to open flow f, and one to close it, which brings no path
 abbrev pub opening : List ℕ → ℕ → ℕ → Demand → Call
-opening path m f d = record { flow = f; verb = ToOpen d; path = path; len = m }
+opening path m f d = record { flow = f; verb = ToOpen d; path = record { entries = path; len = m } }
 
 abbrev pub closing : ℕ → Call
-closing f = record { flow = f; verb = ToClose; path = trimmed [] 0; len = 0 }
+closing f = record { flow = f; verb = ToClose; path = record { entries = trimmed [] 0; len = 0 } }
 
 -- ---- the orders of the calls on table and list
 

@@ -3,49 +3,39 @@
 // on are passed over.
 #![tactic(auto)]
 
-ghost use Rattle.std.specs.Prelude.{◌≡◌, cond, not, ◌+◌, ◌-◌, ◌%◌, ◌≤◌, ◌<◌, max};
-ghost use Rattle.rules.specs.Sets.{has, sum, stretch};
-ghost use Rattle.rules.specs.Wheels.{Legal, Measured, size, run_words, words_at, words, gap_at, largest_gap};
-ghost use Rattle.runs.specs.Steps.{as_wanted};
+ghost use Rattle.std.specs.Prelude.{◌≡◌, ◌+◌, ◌%◌, ◌≤◌, ◌<◌};
+ghost use Rattle.rules.specs.Sets.{sum, stretch};
+ghost use Rattle.rules.specs.Wheels.{Legal, Measured, chosen, size, run_words, words_at, words, gap_at, largest_gap};
 
 use rules::{Wheel, Words};
 
-// The slot after slot i, round the wheel.
+// The slot after slot i, round the wheel and without a division.
+#[tactic(auto, using(crate::specs::Steps::first_turn, crate::specs::Steps::second_turn))]
 fn after(i: usize, n: usize) -> usize
     requires { i < n }
-    ensures { (result ≡ (i + 1) % n) × (result < n) }
+    ensures next { result ≡ (i + 1) % n }
+    ensures below { result < n }
 {
-    if i < n - 1 { i + 1 } else { 0 }
+    if i + 1 < n { i + 1 } else { 0 }
 }
 
-// Whether slot i is chosen; or, where `wanted` is false, is not chosen.
-fn is_as_wanted(x: u64, i: usize, wanted: bool) -> bool
-    requires { i < 64 }
-    ensures { result ≡ cond wanted (has x i) (not (has x i)) }
+// How many slots of x follow one another from slot `from` on, going round the wheel, and at most
+// `limit`.
+#[tactic(auto, using(crate::specs::Steps::first_turn))]
+fn stretch(x: u64, n: usize, from: usize, limit: usize) -> usize
+    requires wheel { n ≤ 64 }
+    requires slot { from < n }
+    ensures counted { result ≡ stretch (chosen n x) from limit }
+    ensures limited { result ≤ limit }
 {
-    if wanted {
-        slots::has_slot(x, i)
-    } else {
-        !slots::has_slot(x, i)
-    }
-}
-
-// How many slots from slot `from` on, going round the wheel and at most `limit`, are chosen; or,
-// where `wanted` is false, are not chosen.
-fn stretch(x: u64, n: usize, from: usize, limit: usize, wanted: bool) -> usize
-    requires { (n ≤ 64) × (from < n) }
-    ensures { result ≡ stretch (as_wanted n x wanted) from limit }
-{
-    let mut count = 0;
-    let mut i = from;
-    while count < limit {
-        if !is_as_wanted(x, i, wanted) {
+    let mut slot = from;
+    for count in 0..limit {
+        if !slots::has_slot(x, slot) {
             return count;
         }
-        i = after(i, n);
-        count += 1;
+        slot = after(slot, n);
     }
-    count
+    limit
 }
 
 // The words of a run of q slots.
@@ -54,10 +44,9 @@ fn run_words(w: Wheel, q: usize) -> usize
     requires q_bound { q ≤ 64 }
     ensures { result ≡ run_words w q }
 {
-    let s = w.s.0 as usize;
-    let h = w.h.0 as usize;
-    let p = w.p;
-    q * s - (q + (p - 1)) / p * h
+    let s = usize::from(w.s.0);
+    let h = usize::from(w.h.0);
+    q * s - q.div_ceil(w.p) * h
 }
 
 // The words of the run that starts at slot i; 0 where none does.
@@ -68,7 +57,7 @@ fn words_at(w: Wheel, x: u64, i: usize) -> usize
 {
     let n = w.n;
     if starts::is_start(x, n, i) {
-        run_words(w, stretch(x, n, i, n, true))
+        run_words(w, stretch(x, n, i, n))
     } else {
         0
     }
@@ -81,10 +70,8 @@ fn words_of_runs(w: Wheel, x: u64) -> usize
 {
     let n = w.n;
     let mut total = 0;
-    let mut i = 0;
-    while i < n {
+    for i in 0..n {
         total += words_at(w, x, i);
-        i += 1;
     }
     total
 }
@@ -97,26 +84,20 @@ pub fn words(w: Wheel, x: u64) -> Words
         return Words(0);
     }
     let n = w.n;
-    if stretch(x, n, 0, n, true) == n {
+    if stretch(x, n, 0, n) == n {
         return Words(run_words(w, n) as u16);
     }
     Words(words_of_runs(w, x) as u16)
 }
 
-// The larger of two numbers.
-fn larger(a: usize, b: usize) -> usize
-    ensures { result ≡ max a b }
-{
-    if a < b { b } else { a }
-}
-
-// The gap after slot i; 0 where it is not chosen.
+// The gap after slot i; 0 where it is not chosen. The slots that are not chosen are those of the
+// complement.
 fn gap_at(x: u64, n: usize, i: usize) -> usize
     requires { (n ≤ 64) × (i < n) }
     ensures { result ≡ gap_at n x i }
 {
     if slots::has_slot(x, i) {
-        1 + stretch(x, n, after(i, n), n - 1, false)
+        1 + stretch(!x, n, after(i, n), n - 1)
     } else {
         0
     }
@@ -130,11 +111,9 @@ pub fn largest_gap(w: Wheel, x: u64) -> usize
         return 0;
     }
     let n = w.n;
-    let mut most = 0;
-    let mut i = 0;
-    while i < n {
-        most = larger(most, gap_at(x, n, i));
-        i += 1;
+    let mut most = 0_usize;
+    for i in 0..n {
+        most = most.max(gap_at(x, n, i));
     }
     most
 }
@@ -148,12 +127,10 @@ pub fn size(w: Wheel, x: u64) -> usize
     }
     let n = w.n;
     let mut count = 0;
-    let mut i = 0;
-    while i < n {
+    for i in 0..n {
         if slots::has_slot(x, i) {
             count += 1;
         }
-        i += 1;
     }
     count
 }

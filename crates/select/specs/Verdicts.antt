@@ -1,8 +1,7 @@
 -- The order of bare selection's refusals, line by line: each is given where the lines before it are passed, and what passes
 -- them all is a demand that the free slots meet as a whole.
 use Rattle.std.specs.Prelude.{◌≡◌, refl, ℕ, ◌≤◌, ◌<◌}
-use Rattle.std.proofs.Math.Logic.{inl, inr}
-use Rattle.std.proofs.Common.{arith}
+use Rattle.std.proofs.Common.{inl, inr, arith}
 use Rattle.rules.specs.declared.Wheel.{Wheel}
 use Rattle.rules.specs.Sets.{Below}
 use Rattle.rules.specs.Wheels.{Legal, words, largest_gap}
@@ -67,3 +66,6 @@ module _ (w : Wheel) (free W L : ℕ) (p : Posed w free W L) where
           let delivers = not_thirteen w p.legal free W enough in
           let meets = not_fourteen w p.legal free W L enough near in
           ((λ bad. bad p.legal), ((λ beyond. beyond p.fit), (p.some, (p.time, (delivers, (meets, tt))))))
+
+-- what is said at each way out
+pub ruleset verdicts = (bad_wheel, slot_beyond, no_words, no_time, too_much, too_far, passes)

@@ -3,32 +3,32 @@
 
 ghost use Rattle.rules.specs.Promises.{Selects};
 
-use rules::{Refusal, Selected, Wheel, Words};
+use rules::{Grant, Refusal, Wheel, Words};
 
 // The best set of free slots that delivers the words with no gap above the limit. The refusals stand
 // in their order: 1, 15, 11, 12, 13, 14. All free slots together deliver the most words and have the
 // smallest gaps, so that 13 and 14 are asked of them.
-#[tactic(auto, using(crate::specs::Verdicts::no_words), unfolding(rules::specs::Promises::Selects))]
-pub fn select(w: Wheel, free: u64, words: Words, limit: u16) -> Selected
+#[tactic(auto, using(crate::specs::Verdicts::verdicts), unfolding(rules::specs::Promises::Selects))]
+pub fn select(w: Wheel, free: u64, words: Words, limit: u16) -> Result<Grant, Refusal>
     ensures { Selects w free words.0 limit result }
 {
     if !measure::legal(w) {
-        return Selected::Refused(Refusal::BadWheel);
+        return Err(Refusal::BadWheel);
     }
     if !measure::below(free, w.n) {
-        return Selected::Refused(Refusal::SlotBeyond);
+        return Err(Refusal::SlotBeyond);
     }
     if words.0 == 0 {
-        return Selected::Refused(Refusal::NoWords);
+        return Err(Refusal::NoWords);
     }
     if limit == 0 {
-        return Selected::Refused(Refusal::NoTime);
+        return Err(Refusal::NoTime);
     }
     if measure::words(w, free).0 < words.0 {
-        return Selected::Refused(Refusal::TooMuch);
+        return Err(Refusal::TooMuch);
     }
-    if (limit as usize) < measure::largest_gap(w, free) {
-        return Selected::Refused(Refusal::TooFar);
+    if usize::from(limit) < measure::largest_gap(w, free) {
+        return Err(Refusal::TooFar);
     }
-    Selected::Chosen(engine::best(w, free, words, limit))
+    Ok(engine::best(w, free, words, limit))
 }

@@ -12,42 +12,19 @@ use rules::Wheel;
 pub fn legal(w: Wheel) -> bool
     ensures { Tells result (Legal w) }
 {
-    if w.n < 1 {
-        return false;
-    }
-    if 64 < w.n {
-        return false;
-    }
-    if w.s.0 < 2 {
-        return false;
-    }
-    if 64 < w.s.0 {
-        return false;
-    }
-    if w.s.0 <= w.h.0 {
-        return false;
-    }
-    if w.p < 1 {
-        return false;
-    }
-    if 64 < w.p {
-        return false;
-    }
-    true
+    1 <= w.n && w.n <= 64 && 2 <= w.s.0 && w.s.0 <= 64 && w.h.0 < w.s.0 && 1 <= w.p && w.p <= 64
 }
 
 // Whether every slot of x is below n.
-#[tactic(auto, using(crate::proofs::Words::below_word))]
+#[tactic(auto, using(crate::proofs::Words::below_word, crate::proofs::Words::below_rest))]
 pub fn below(x: u64, n: usize) -> bool
     ensures { Tells result (Below n x) }
 {
-    if 64 <= n {
-        return true;
-    }
-    (x >> n) == 0
+    64 <= n || x >> n == 0
 }
 
 // Whether slot i is in the set x.
+#[tactic(auto, unfolding(rules::specs::Sets::has))]
 pub fn has_slot(x: u64, i: usize) -> bool
     requires { i < 64 }
     ensures { result ≡ has x i }

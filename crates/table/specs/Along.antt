@@ -21,6 +21,10 @@ use Rattle.rows.specs.Rows.{later, hits, stays, RowStamped, later_below}
 pub record Holds (chip : Chip) (t path : List ℕ) (m x v : ℕ) : Type 0 where
   pub at : (c j : ℕ) → claims chip path m x c j ≡ true → cell t c j ≡ v
 
+-- `row` is the 64 cells of channel c
+pub record IsRow (t : List ℕ) (c : ℕ) (row : List ℕ) : Type 0 where
+  pub at : (j : ℕ) → j < 64 → get_or row j 0 ≡ cell t c j
+
 -- a path on which the rows of a table can be visited
 pub record Walkable (chip : Chip) (t path : List ℕ) (m : ℕ) : Type 0 where
   pub fits : m ≤ 16
@@ -28,7 +32,7 @@ pub record Walkable (chip : Chip) (t path : List ℕ) (m : ℕ) : Type 0 where
   pub inside : Inside chip.channels path m
 
 -- a record that obeys its own rules has such a path
-pub own_walkable : (chip : Chip) (r : Record) (t : List ℕ) (s : State) → Own chip s r → Tabled chip.channels t → Walkable chip t r.path r.len
+pub own_walkable : (chip : Chip) (r : Record) (t : List ℕ) (s : State) → Own chip s r → Tabled chip.channels t → Walkable chip t r.path.entries r.path.len
 unfolding Own
 own_walkable chip r t Closed own tabled =
     record { fits = omega (arith, own.len); rows = tabled.long; inside = record { at = λ i h. absurd (omega (arith, own.len)) } }
@@ -54,12 +58,12 @@ module _ (chip : Chip) (path : List ℕ) (i k : ℕ) (turned : k ≡ shift chip 
   unfolding reached hits
   reached_hits x j u = any_same _ _ u λ s h. rw (seen_later s)
 
-  -- a cell of the row of position i that is lent
-  pub seen_lent : (t : List ℕ) (d : ℕ) → d ≡ get_or path i 0 → Legal chip.wheel → (s : ℕ)
-      → get_or (take (64 * d + 64 - 64 * d) (drop (64 * d) t)) (later chip.wheel.n k s) 0 ≡ cell t (get_or path i 0) (seen chip path i s)
-  seen_lent t d e legal s =
-      lent_row t d (get_or path i 0) (later chip.wheel.n k s) e (omega (arith, later_below chip.wheel.n k s legal.n1, legal.n64))
-      ∙ ap (cell t (get_or path i 0)) (sym (seen_later s))
+  -- a cell of the row of position i
+  pub seen_lent : (t row : List ℕ) (c : ℕ) → IsRow t c row → c ≡ get_or path i 0 → Legal chip.wheel → (s : ℕ)
+      → get_or row (later chip.wheel.n k s) 0 ≡ cell t (get_or path i 0) (seen chip path i s)
+  seen_lent t row c lent e legal s =
+      lent.at (later chip.wheel.n k s) (omega (arith, later_below chip.wheel.n k s legal.n1, legal.n64))
+      ∙ rw (e, seen_later s)
 
 -- ---- free slots
 
@@ -77,6 +81,13 @@ free_turn chip t path row i k x n1 turned made cells =
     set_same _ _ chip.wheel.n λ s h.
     rw (all_more, made, seen_later chip path i k turned s, ← cells (later chip.wheel.n k s) (later_below chip.wheel.n k s n1))
     (ap (λ b. b && eqb (get_or row (later chip.wheel.n k s) 0) 0) (has_set _ chip.wheel.n 0 s h ∙ ap (free chip t path i) (zero-add s)))
+
+-- the row of a channel, which is that of position i
+pub free_asked : (chip : Chip) (t path row : List ℕ) (c i k x : ℕ) → Legal chip.wheel → k ≡ shift chip path i % chip.wheel.n
+    → x ≡ set_of (free chip t path i) 0 chip.wheel.n → IsRow t c row → c ≡ get_or path i 0
+    → set_of (stays row chip.wheel.n k x) 0 chip.wheel.n ≡ set_of (free chip t path (i + 1)) 0 chip.wheel.n
+free_asked chip t path row c i k x legal turned made lent e =
+    free_turn chip t path row i k x legal.n1 turned made λ j h. lent.at j (omega (arith, legal.n64)) ∙ ap (λ d. cell t d j) e
 
 pub free_end : (chip : Chip) (t path : List ℕ) (m x : ℕ) → x ≡ set_of (free chip t path m) 0 chip.wheel.n → x ≡ free_slots chip t path m
 unfolding free_slots

@@ -2,16 +2,17 @@
 // along a path is done row by row: the row of each channel is lent to a leaf that reads or writes it.
 #![tactic(auto)]
 
-ghost use Rattle.std.specs.Prelude.{◌≡◌, ◌≤◌, ◌<◌};
+ghost use Rattle.std.specs.Prelude.{◌≡◌, ◌+◌, ◌*◌, ◌%◌, ◌≤◌, ◌<◌, length};
 ghost use Rattle.rules.specs.Tells.{Tells};
 ghost use Rattle.rules.specs.Wheels.{Legal};
-ghost use Rattle.rules.specs.Paths.{chip_of, free_slots, Stamped};
+ghost use Rattle.rules.specs.Paths.{chip_of, free_slots, shift, Stamped};
 ghost use Rattle.rules.specs.Orders.{Tabled};
 ghost use Rattle.rules.specs.Promises.{HasRow, Row};
 ghost use Rattle.ledger.specs.Totals.{used_cells};
-ghost use Rattle.table.specs.Along.{Holds, Walkable};
+ghost use Rattle.table.specs.Along.{Holds, IsRow, Walkable};
 
-use rules::{Chip, Wheel};
+use rows::Turn;
+use rules::{Chip, Path, Wheel};
 
 // The chip that a wheel and a table are of.
 pub fn chip_of(table: &[u8], w: Wheel) -> Chip
@@ -28,27 +29,14 @@ pub fn is_table(table: &[u8], chip: Chip) -> bool
     ensures { Tells result (Tabled chip.channels table.now) }
 {
     let channels = chip.channels;
-    if channels < 1 {
-        return false;
-    }
-    if 64 < channels {
-        return false;
-    }
-    table.len() == 64 * channels
+    1 <= channels && channels <= 64 && table.len() == 64 * channels
 }
 
 // Whether wheel and table are good and channel c is in the table.
 fn has_row(table: &[u8], chip: Chip, c: usize) -> bool
     ensures { Tells result (HasRow chip table.now c) }
 {
-    let w = chip.wheel;
-    if !measure::legal(w) {
-        return false;
-    }
-    if !is_table(table, chip) {
-        return false;
-    }
-    c < chip.channels
+    measure::legal(chip.wheel) && is_table(table, chip) && c < chip.channels
 }
 
 // The part of the table that holds the N cells of channel c; empty if wheel, table or channel is bad.
@@ -57,81 +45,84 @@ pub fn row(table: &[u8], w: Wheel, c: usize) -> &[u8]
 {
     let chip = chip_of(table, w);
     if !has_row(table, chip, c) {
-        return &table[0..0];
+        return &table[..0];
     }
-    let n = w.n;
     let from = 64 * c;
-    let to = from + n;
-    &table[from..to]
+    &table[from..from + w.n]
+}
+
+// The 64 cells of channel c.
+fn cells(table: &[u8], c: usize) -> &[u8; 64]
+    requires { 64 * c + 64 ≤ length table.now }
+    ensures { IsRow table.now c result.now }
+{
+    let from = 64 * c;
+    table[from..from + 64].as_array().unwrap()
+}
+
+// How the row of the path's position i is seen.
+fn turn(chip: Chip, path: Path, i: usize) -> Turn
+    requires { Legal chip.wheel × (i < 16) }
+    ensures wheel { result.wheel ≡ chip.wheel }
+    ensures shift { result.shift ≡ shift chip path.entries i % chip.wheel.n }
+{
+    Turn {
+        wheel: chip.wheel,
+        shift: route::turn(chip, path, i),
+    }
 }
 
 // The free slots of a path (rule 1): at each position the slots whose cell there is taken drop out.
-pub fn free_slots(table: &[u8], chip: Chip, path: [u16; 16], len: usize) -> u64
+pub fn free_slots(table: &[u8], chip: Chip, path: Path) -> u64
     requires legal { Legal chip.wheel }
-    requires walkable { Walkable chip table.now path len }
-    ensures { result ≡ free_slots chip table.now path len }
+    requires walkable { Walkable chip table.now path.entries path.len }
+    ensures { result ≡ free_slots chip table.now path.entries path.len }
 {
-    let w = chip.wheel;
-    let mut x = rows::all_slots(w);
-    let mut i = 0;
-    while i < len {
-        let from = 64 * route::channel(path, i);
-        let to = from + 64;
-        let k = route::turn(chip, path, i);
-        x = rows::still_free(&table[from..to], w, k, x);
-        i += 1;
+    let mut x = rows::all_slots(chip.wheel);
+    for i in 0..path.len {
+        let row = cells(table, route::channel(path, i));
+        x = rows::still_free(row, turn(chip, path, i), x);
     }
     x
 }
 
 // Writes v into every cell that the slots x claim on the path (rule 7); 0 clears them.
-pub fn mark(table: &mut [u8], chip: Chip, path: [u16; 16], len: usize, x: u64, v: u8)
+pub fn mark(table: &mut [u8], chip: Chip, path: Path, x: u64, v: u8)
     requires legal { Legal chip.wheel }
-    requires walkable { Walkable chip table.old path len }
-    ensures { Stamped chip path len x v table.old table.new }
+    requires walkable { Walkable chip table.old path.entries path.len }
+    ensures { Stamped chip path.entries path.len x v table.old table.new }
 {
-    let w = chip.wheel;
-    let mut i = 0;
-    while i < len {
+    for i in 0..path.len {
         let from = 64 * route::channel(path, i);
-        let to = from + 64;
-        let k = route::turn(chip, path, i);
-        rows::mark_row(&mut table[from..to], w, k, x, v);
-        i += 1;
+        let turn = turn(chip, path, i);
+        rows::mark_row(&mut table[from..from + 64], turn, x, v);
     }
 }
 
 // Whether every cell that the slots x claim on the path holds v.
-pub fn holds(table: &[u8], chip: Chip, path: [u16; 16], len: usize, x: u64, v: u8) -> bool
+pub fn holds(table: &[u8], chip: Chip, path: Path, x: u64, v: u8) -> bool
     requires legal { Legal chip.wheel }
-    requires walkable { Walkable chip table.now path len }
-    ensures { Tells result (Holds chip table.now path len x v) }
+    requires walkable { Walkable chip table.now path.entries path.len }
+    ensures { Tells result (Holds chip table.now path.entries path.len x v) }
 {
-    let w = chip.wheel;
-    let mut i = 0;
-    while i < len {
-        let from = 64 * route::channel(path, i);
-        let to = from + 64;
-        let k = route::turn(chip, path, i);
-        if !rows::row_holds(&table[from..to], w, k, x, v) {
+    for i in 0..path.len {
+        let row = cells(table, route::channel(path, i));
+        if !rows::row_holds(row, turn(chip, path, i), x, v) {
             return false;
         }
-        i += 1;
     }
     true
 }
 
-// How many cells of the table are not 0.
+// How many cells of the table are not 0. A for loop: as a chain of filter and count it takes twice the time.
 pub fn count_used(table: &[u8]) -> usize
     ensures { result ≡ used_cells table.now }
 {
     let mut count = 0;
-    let mut i = 0;
-    while i < table.len() {
-        if table[i] != 0 {
+    for cell in table {
+        if *cell != 0 {
             count += 1;
         }
-        i += 1;
     }
     count
 }

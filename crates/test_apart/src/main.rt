@@ -3,12 +3,12 @@
 // one less than the deadline.
 #![tactic(auto)]
 
-use apart::Found;
+use apart::{Asked, Grant, No, Wheel};
 use std::io;
 
 // How many searches were run, how many granted a set, how many were refused by 13 and by 14, and
 // the sums of the granted sets, as numbers, and of their words.
-#[derive(Clone, Copy)]
+#[derive(Clone, Copy, Default)]
 struct Sums {
     searches: u64,
     granted: u64,
@@ -18,54 +18,58 @@ struct Sums {
     words: u64,
 }
 
-// Nothing searched yet.
-fn none() -> Sums {
-    Sums {
-        searches: 0,
-        granted: 0,
-        too_much: 0,
-        too_far: 0,
-        slots: 0,
-        words: 0,
-    }
-}
-
-// The sum of two numbers, which are small.
-fn plus(a: u64, b: u64) -> u64 {
-    std::num::wrapping_add_u64(a, b)
-}
-
-// 1 if the two numbers are the same, else 0.
-fn one_if(a: u64, b: u64) -> u64 {
-    if a == b { 1 } else { 0 }
-}
-
-// One search more.
-fn noted(t: Sums, f: Found) -> Sums {
-    Sums {
-        searches: plus(t.searches, 1),
-        granted: plus(t.granted, one_if(f.no, 0)),
-        too_much: plus(t.too_much, one_if(f.no, 13)),
-        too_far: plus(t.too_far, one_if(f.no, 14)),
-        slots: plus(t.slots, f.slots),
-        words: plus(t.words, f.words),
+impl Sums {
+    // One search more, and what it found; nothing where the two searches differ.
+    fn note(&mut self, found: Option<Result<Grant, No>>) {
+        self.searches = self.searches.wrapping_add(1);
+        match found {
+            Some(Ok(set)) => {
+                self.granted = self.granted.wrapping_add(1);
+                self.slots = self.slots.wrapping_add(set.slots);
+                self.words = self.words.wrapping_add(set.words);
+            }
+            Some(Err(No::TooMuch)) => self.too_much = self.too_much.wrapping_add(1),
+            Some(Err(No::TooFar)) => self.too_far = self.too_far.wrapping_add(1),
+            _ => {}
+        }
     }
 }
 
 // Prints a line with what was found: a set as a number, how many slots, and words; or a no.
-fn show(rt: HostRuntime, name: &str, f: Found) -> io::Result<()> {
-    if f.no != 0 {
-        return println!(rt; "{name} refused {}", f.no);
+fn show(rt: HostRuntime, name: &str, found: Result<Grant, No>) -> io::Result<()> {
+    match found {
+        Ok(set) => println!(rt;
+            "{name} set {} slots {} words {}",
+            set.slots, set.count, set.words
+        ),
+        Err(no) => println!(rt; "{name} refused {}", no as u64),
     }
-    println!(rt;
-        "{name} set {} slots {} words {}",
-        f.slots, f.count, f.words
-    )
+}
+
+// A wheel of n slots, and for the rest the default.
+fn wheel(n: u64) -> Wheel {
+    Wheel {
+        n,
+        s: 3,
+        h: 1,
+        p: 3,
+    }
+}
+
+// A search on a wheel of n slots.
+fn search_on(n: u64, free: u64, words: u64, limit: u64) -> Result<Grant, No> {
+    let asked = Asked {
+        wheel: wheel(n),
+        free,
+        words,
+        limit,
+    };
+    asked.search()
 }
 
 // A search on the default wheel.
-fn search(free: u64, wanted: u64, limit: u64) -> Found {
-    apart::search(8, 3, 1, 3, free, wanted, limit)
+fn search(free: u64, words: u64, limit: u64) -> Result<Grant, No> {
+    search_on(8, free, words, limit)
 }
 
 // P6 to P9 of document 01.
@@ -88,71 +92,48 @@ fn more_examples(rt: HostRuntime) -> io::Result<()> {
 
 // Refusals, each with all later ones besides.
 fn refusals(rt: HostRuntime) -> io::Result<()> {
-    show(rt, "N 0", apart::search(0, 3, 1, 3, 256, 0, 0))?;
+    show(rt, "N 0", search_on(0, 256, 0, 0))?;
     show(rt, "slot 8 free", search(256, 0, 0))?;
     show(rt, "W 0", search(0, 0, 0))?;
     show(rt, "L 0", search(0, 1, 0))?;
-    show(rt, "N 17", apart::search(17, 3, 1, 3, 255, 1, 1))
+    show(rt, "N 17", search_on(17, 255, 1, 1))
 }
 
-// Whether two searches found the same.
-fn same(a: Found, b: Found) -> bool {
-    a.no == b.no && a.slots == b.slots && a.count == b.count && a.words == b.words
-}
-
-// What both searches found; counted nowhere where they differ.
-fn searched(n: u64, free: u64, wanted: u64, limit: u64) -> Found {
-    let f = apart::search(n, 3, 1, 3, free, wanted, limit);
-    if same(f, exact::search(n, 3, 1, 3, free, wanted, limit)) {
-        f
+// What both searches found; nothing where they differ.
+fn searched(asked: Asked) -> Option<Result<Grant, No>> {
+    let found = asked.search();
+    if found == exact::select(asked) {
+        Some(found)
     } else {
-        apart::refused(99)
+        None
     }
 }
 
-// Every limit up to one above N.
-fn all_limits(t: Sums, n: u64, free: u64, wanted: u64) -> Sums {
+// Every set of free slots of a wheel of at most 16, with every number of words up to 18, which six
+// slots do not deliver, and every limit up to one above N.
+fn all_searches(n: u64) -> Sums {
+    let mut sums = Sums::default();
     if 16 < n {
-        return t;
+        return sums;
     }
-    let mut sum = t;
-    let mut limit = 1;
-    while limit <= n + 1 {
-        sum = noted(sum, searched(n, free, wanted, limit));
-        limit += 1;
+    for free in 0..1 << n {
+        for words in 1..=18 {
+            for limit in 1..=n + 1 {
+                sums.note(searched(Asked {
+                    wheel: wheel(n),
+                    free,
+                    words,
+                    limit,
+                }));
+            }
+        }
     }
-    sum
-}
-
-// Every number of words up to 18, which six slots do not deliver.
-fn all_words(t: Sums, n: u64, free: u64) -> Sums {
-    let mut sum = t;
-    let mut wanted = 1;
-    while wanted <= 18 {
-        sum = all_limits(sum, n, free, wanted);
-        wanted += 1;
-    }
-    sum
-}
-
-// Every set of free slots of a wheel of at most 16.
-fn all_free(n: u64) -> Sums {
-    if 16 < n {
-        return none();
-    }
-    let end = 1 << n;
-    let mut sum = none();
-    let mut free = 0;
-    while free < end {
-        sum = all_words(sum, n, free);
-        free += 1;
-    }
-    sum
+    sums
 }
 
 // Prints the sums over all searches of a wheel.
 fn show_sums(rt: HostRuntime, n: u64) -> io::Result<()> {
-    let t = all_free(n);
+    let t = all_searches(n);
     print!(rt; "N {n}: {} searches, {} granted, ", t.searches, t.granted)?;
     print!(rt; "{} refused 13, {} refused 14, ", t.too_much, t.too_far)?;
     println!(rt; "sets sum {}, words sum {}", t.slots, t.words)
@@ -162,10 +143,8 @@ fn main(rt: HostRuntime) -> io::Result<()> {
     examples(rt)?;
     more_examples(rt)?;
     refusals(rt)?;
-    show_sums(rt, 1)?;
-    show_sums(rt, 2)?;
-    show_sums(rt, 3)?;
-    show_sums(rt, 4)?;
-    show_sums(rt, 5)?;
-    show_sums(rt, 6)
+    for n in 1..=6 {
+        show_sums(rt, n)?;
+    }
+    Ok(())
 }

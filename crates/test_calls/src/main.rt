@@ -7,61 +7,63 @@
 // opening and closing that needs no damage was given.
 #![tactic(auto)]
 
-ghost use Rattle.std.specs.Prelude.{◌≡◌, length};
+ghost use Rattle.std.specs.Prelude.{◌^◌, ◌<◌};
 
-use model::{Asked, Call};
+use apart::{No, Wheel};
+use model::{Asked, Call, Demand, Path, Reply};
 use std::io;
-use trial::{Hit, Tally};
-
-// ---- numbers
-
-// The sum of two numbers, which are small.
-fn plus(a: u64, b: u64) -> u64 {
-    std::num::wrapping_add_u64(a, b)
-}
-
-// The smaller of two numbers.
-fn least(a: u64, b: u64) -> u64 {
-    if a < b { a } else { b }
-}
+use through::Malformed;
+use trial::{Scene, Tally};
 
 // ---- chance
 
-// The next of a fixed sequence of numbers below 2 ^ 32.
-fn next(seed: u64) -> u64 {
-    ((seed % 4294967296) * 1664525 + 1013904223) % 4294967296
-}
+// A number below 2 ^ 32 of a fixed sequence, from which others are drawn.
+#[derive(Clone, Copy)]
+struct Seed(u64);
 
-// The k-th number drawn from a seed, below `end`.
-fn draw(seed: u64, k: u64, end: u64) -> u64 {
-    if end == 0 {
-        return 0;
+const SPAN: u64 = 1 << 32;
+
+impl Seed {
+    // The next of the sequence.
+    fn next(self) -> Seed
+        ensures { result.0 < 2 ^ 32 }
+    {
+        Seed(((self.0 % SPAN) * 1664525 + 1013904223) % SPAN)
     }
-    let x = next(plus(seed, (k % 256) * 40503));
-    let y = next(x ^ (x / 32768));
-    (y / 65536) % end
-}
 
-// Once in so many times.
-fn rarely(seed: u64, k: u64, times: u64) -> bool {
-    draw(seed, k, times) == 0
+    // The k-th number drawn, below 2 ^ 16 and below `end`; 0 if there is none.
+    fn draw(self, k: u64, end: u64) -> u64
+        ensures small { result < 2 ^ 16 }
+        ensures below { 0 < end → result < end }
+    {
+        if end == 0 {
+            return 0;
+        }
+        let x = Seed(self.0.wrapping_add((k % 256) * 40503)).next();
+        let y = Seed(x.0 ^ (x.0 / 32768)).next();
+        (y.0 / 65536) % end
+    }
+
+    // Once in so many times.
+    fn rarely(self, k: u64, times: u64) -> bool {
+        self.draw(k, times) == 0
+    }
 }
 
 // ---- what is asked
 
 // The step of a path: odd, so that no channel is met twice, and rarely even.
-fn some_step(seed: u64) -> u64 {
-    if rarely(seed, 2, 10) {
+fn some_step(seed: Seed) -> u64 {
+    if seed.rarely(2, 10) {
         return 2;
     }
-    let half = draw(seed, 3, 8);
-    plus(plus(half, half), 1)
+    2 * seed.draw(3, 8) + 1
 }
 
 // How many channels a path goes round: rarely one that is not there.
-fn some_round(seed: u64, channels: u64) -> u64 {
-    if rarely(seed, 4, 12) {
-        return plus(channels, 1);
+fn some_round(seed: Seed, channels: u64) -> u64 {
+    if seed.rarely(4, 12) {
+        return channels.wrapping_add(1);
     }
     channels
 }
@@ -71,78 +73,74 @@ fn further(channel: u64, step: u64, round: u64) -> u64 {
     if round == 0 {
         return 0;
     }
-    plus(channel, step) % round
-}
-
-// A path.
-fn some_path(seed: u64, channels: u64) -> [u16; 16] {
-    let step = some_step(seed);
-    let round = some_round(seed, channels);
-    let mut at = draw(seed, 1, channels);
-    let mut p: [u16; 16] = [0; 16];
-    let mut i = 0;
-    while i < 16 {
-        p[i] = model::short(at);
-        at = further(at, step, round);
-        i += 1;
-    }
-    p
+    channel.wrapping_add(step) % round
 }
 
 // A path length, rarely one that is too small or too large.
-fn some_length(seed: u64, channels: u64) -> u64 {
-    if rarely(seed, 5, 12) {
-        return draw(seed, 6, 19);
+fn some_length(seed: Seed, channels: u64) -> u64 {
+    if seed.rarely(5, 12) {
+        return seed.draw(6, 19);
     }
-    plus(draw(seed, 7, least(channels, 16)), 1)
+    seed.draw(7, channels.min(16)) + 1
+}
+
+// A path.
+fn some_path(seed: Seed, channels: u64) -> Path {
+    let step = some_step(seed);
+    let round = some_round(seed, channels);
+    let mut at = seed.draw(1, channels);
+    let mut path: [u16; 16] = [0; 16];
+    for channel in path.iter_mut() {
+        *channel = (at % 65536) as u16;
+        at = further(at, step, round);
+    }
+    Path {
+        channels: path,
+        len: some_length(seed, channels),
+    }
 }
 
 // A flow, rarely one that is not there.
-fn some_flow(seed: u64, flows: u64) -> u64 {
-    if rarely(seed, 8, 12) {
-        return draw(seed, 9, plus(flows, 2));
+fn some_flow(seed: Seed, flows: u64) -> u64 {
+    if seed.rarely(8, 12) {
+        return seed.draw(9, flows.wrapping_add(2));
     }
-    plus(draw(seed, 10, flows), 1)
-}
-
-// The words of the full wheel.
-fn all_words(a: Asked) -> u64 {
-    apart::words(a.n, a.s, a.h, a.p, apart::cut(18446744073709551615, a.n))
+    seed.draw(10, flows) + 1
 }
 
 // A number of words, rarely more than the wheel has.
-fn some_words(seed: u64, a: Asked) -> u64 {
-    let all = all_words(a);
-    if rarely(seed, 11, 10) {
-        return draw(seed, 12, plus(all, 3));
+fn some_words(seed: Seed, wheel: Wheel) -> u64 {
+    let all = wheel.words(wheel.all());
+    if seed.rarely(11, 10) {
+        return seed.draw(12, all.wrapping_add(3));
     }
-    draw(seed, 13, plus(all / 8, 3))
+    seed.draw(13, all / 8 + 3)
 }
 
 // A deadline, rarely not above the path's length.
-fn some_deadline(seed: u64, n: u64, len: u64) -> u64 {
-    if rarely(seed, 14, 12) {
-        return draw(seed, 15, plus(len, 1));
+fn some_deadline(seed: Seed, n: u64, len: u64) -> u64 {
+    if seed.rarely(14, 12) {
+        return seed.draw(15, len.wrapping_add(1));
     }
-    plus(len, draw(seed, 16, plus(n, 3)))
+    len.wrapping_add(seed.draw(16, n.wrapping_add(3)))
 }
 
-// What to ask: of wheel and lengths, those of a.
-fn some_asked(seed: u64, a: Asked) -> Asked {
-    let path = some_path(seed, a.table / 64);
-    let len = some_length(seed, a.table / 64);
-    let mut k = a;
-    k.flow = some_flow(seed, a.list / 64);
-    k.path = path;
-    k.len = len;
-    k.words = some_words(seed, a);
-    k.deadline = some_deadline(seed, a.n, len);
-    k
+// What to ask: of wheel and lengths, the same.
+fn some_asked(seed: Seed, asked: &Asked) -> Asked {
+    let path = some_path(seed, (asked.table / model::ROW) as u64);
+    let mut some = *asked;
+    some.flow = some_flow(seed, (asked.list / model::ROW) as u64);
+    some.path = path;
+    some.demand = Demand {
+        words: some_words(seed, asked.wheel),
+        deadline: some_deadline(seed, asked.wheel.n, path.len),
+    };
+    some
 }
 
 // Some call.
-fn some_call(seed: u64) -> Call {
-    match draw(seed, 17, 16) {
+fn some_call(seed: Seed) -> Call {
+    match seed.draw(17, 16) {
         0..=9 => Call::Open,
         10..=13 => Call::Close,
         14 => Call::Report,
@@ -153,256 +151,214 @@ fn some_call(seed: u64) -> Call {
 // ---- damage
 
 // A byte's new value: any, or a small one, as flow numbers and most of a record's are.
-fn some_value(seed: u64) -> u64 {
-    if rarely(seed, 20, 2) {
-        return draw(seed, 21, 256);
+fn some_value(seed: Seed) -> u8 {
+    if seed.rarely(20, 2) {
+        return seed.draw(21, 256) as u8;
     }
-    draw(seed, 22, 18)
+    seed.draw(22, 18) as u8
 }
 
 // A byte of the table or of the list changed.
-fn some_hit(seed: u64, a: Asked) -> Hit {
+fn struck(seed: Seed, scene: &Scene) -> Scene {
+    let mut damaged = *scene;
     let value = some_value(seed);
-    if rarely(seed, 23, 2) {
-        return trial::hit_table(draw(seed, 24, a.table), value);
+    if seed.rarely(23, 2) {
+        let at = seed.draw(24, scene.asked.table as u64) as usize;
+        damaged.rooms.table[at % model::ROOM] = value;
+    } else {
+        let at = seed.draw(25, scene.asked.list as u64) as usize;
+        damaged.rooms.list[at % model::ROOM] = value;
     }
-    trial::hit_list(draw(seed, 25, a.list), value)
+    damaged
 }
 
 // A length: any, or of full rows.
-fn some_size(seed: u64) -> u64 {
-    if rarely(seed, 27, 2) {
-        return draw(seed, 28, 4225);
+fn some_size(seed: Seed) -> usize {
+    if seed.rarely(27, 2) {
+        return seed.draw(28, model::ROOM as u64 + 1) as usize;
     }
-    64 * (draw(seed, 29, 67) % 128)
+    model::ROW * seed.draw(29, 67) as usize
 }
 
 // Another table length, another list length, or another N.
-fn other(seed: u64, a: Asked) -> Asked {
-    let mut k = a;
-    match draw(seed, 30, 3) {
-        0 => k.table = some_size(seed),
-        1 => k.list = some_size(seed),
-        _ => k.n = draw(seed, 31, 70),
+fn other(seed: Seed, scene: &Scene) -> Scene {
+    let mut other = *scene;
+    match seed.draw(30, 3) {
+        0 => other.asked.table = some_size(seed),
+        1 => other.asked.list = some_size(seed),
+        _ => other.asked.wheel.n = seed.draw(31, 70),
     }
-    k
+    other
 }
 
 // A damaged call.
-fn damaged(t: Tally, table: &[u8], list: &[u8], a: Asked, seed: u64) -> Tally {
+fn damaged(tally: &mut Tally, scene: &Scene, seed: Seed) {
     let call = some_call(seed);
-    let asked = some_asked(seed, a);
-    if rarely(seed, 32, 4) {
-        return trial::compared(t, call, table, list, other(seed, asked), trial::unhit());
+    let mut asking = *scene;
+    asking.asked = some_asked(seed, &scene.asked);
+    if seed.rarely(32, 4) {
+        tally.compared(call, &other(seed, &asking));
+    } else {
+        tally.compared(call, &struck(seed, &asking));
     }
-    trial::compared(t, call, table, list, asked, some_hit(seed, a))
 }
 
 // ---- the sequences
 
 // Random free slots, rarely with some that are not there.
-fn some_free(seed: u64, n: u64) -> u64 {
-    let low = draw(seed, 40, 65536) | (draw(seed, 41, 65536) << 16);
-    let high = (draw(seed, 42, 65536) << 32) | (draw(seed, 43, 65536) << 48);
+fn some_free(seed: Seed, n: u64) -> u64 {
+    let low = seed.draw(40, 65536) | (seed.draw(41, 65536) << 16);
+    let high = (seed.draw(42, 65536) << 32) | (seed.draw(43, 65536) << 48);
     let any = low | high;
-    if rarely(seed, 44, 8) {
+    if seed.rarely(44, 8) {
         return any;
     }
     apart::cut(any, n)
 }
 
 // Bare selection among random free slots.
-fn selected(t: Tally, a: Asked, seed: u64) -> Tally {
-    let free = some_free(seed, a.n);
-    let asked = some_asked(seed, a);
-    let limit = draw(seed, 45, plus(a.n, 2));
-    let r = through::select(asked, free, limit);
-    trial::counted(t, model::same_reply(r, model::select(asked, free, limit)))
+fn selected(tally: &mut Tally, asked: &Asked, seed: Seed) {
+    let wheel = asked.wheel;
+    let selection = apart::Asked {
+        wheel,
+        free: some_free(seed, wheel.n),
+        words: asked.demand.words,
+        limit: seed.draw(45, wheel.n.wrapping_add(2)),
+    };
+    tally.count(through::select(selection) == Ok(model::select(selection)));
 }
 
-// What was counted of a sequence: its calls, those that were damaged, bare selections, and the
-// numbers given to its calls, as a set.
-#[derive(Clone, Copy)]
+// The answers that were given to a sequence's calls: whether a yes, and the numbers of the noes, as a
+// set.
+#[derive(Clone, Copy, Default)]
+struct Given {
+    yes: bool,
+    noes: u64,
+}
+
+impl Given {
+    // With an answer.
+    fn add(&mut self, reply: Result<Reply, Malformed>) {
+        match reply {
+            Ok(Ok(_)) => self.yes = true,
+            Ok(Err(no)) => self.noes |= 1 << no as u64 % 64,
+            Err(Malformed) => {}
+        }
+    }
+
+    // Whether this no was given.
+    fn has(self, no: No) -> bool {
+        apart::chosen(self.noes, no as u64)
+    }
+}
+
+// What was counted of a sequence: its calls, those that were damaged, and bare selections.
+#[derive(Clone, Copy, Default)]
 struct Counts {
     calls: Tally,
     damaged: Tally,
     selections: Tally,
-    given: u64,
 }
 
-// Nothing counted yet.
-fn none() -> Counts {
-    let t = trial::none();
-    Counts {
-        calls: t,
-        damaged: t,
-        selections: t,
-        given: 0,
+// A sequence of calls: each is watched on copies, with what goes with it, and then made.
+fn turns(scene: &mut Scene, calls: u64, given: &mut Given) -> Counts {
+    let mut counts = Counts::default();
+    let asked = scene.asked;
+    let sizes = (asked.table as u64).wrapping_add(asked.list as u64);
+    let mut seed = Seed(asked.wheel.n.wrapping_add(sizes));
+    for i in 0..calls {
+        seed = seed.next();
+        let call = some_call(seed);
+        scene.asked = some_asked(seed, &asked);
+        counts.calls.compared(call, scene);
+        damaged(&mut counts.damaged, scene, seed.next());
+        if i % 8 == 0 {
+            selected(&mut counts.selections, &scene.asked, seed);
+        }
+        given.add(scene.make(call));
     }
-}
-
-// The set of a number alone.
-fn only(no: u64) -> u64 {
-    if no < 64 { 1 << no } else { 0 }
-}
-
-// A call made by library and model, with what goes with it: call i of a sequence.
-fn watched(
-    c: Counts,
-    table: &[u8],
-    list: &[u8],
-    call: Call,
-    asked: Asked,
-    seed: u64,
-    i: u64,
-) -> Counts {
-    let t = c.calls;
-    let d = c.damaged;
-    let s = c.selections;
-    let calls = trial::compared(t, call, table, list, asked, trial::unhit());
-    let damaged = damaged(d, table, list, asked, next(seed));
-    let selections = if i % 8 == 0 {
-        selected(s, asked, seed)
-    } else {
-        s
-    };
-    Counts {
-        calls,
-        damaged,
-        selections,
-        given: c.given,
-    }
-}
-
-// With a number given.
-fn with_given(c: Counts, no: u64) -> Counts {
-    let mut k = c;
-    k.given = c.given | only(no);
-    k
-}
-
-// Call i of a sequence: watched on copies, and then made.
-fn turn(c: Counts, table: &mut [u8], list: &mut [u8], a: Asked, seed: u64, i: u64) -> Counts {
-    let asked = some_asked(seed, a);
-    let call = some_call(seed);
-    let k = watched(c, table, list, call, asked, seed, i);
-    let r = through::answer(call, table, list, asked);
-    with_given(k, r.no)
-}
-
-// A sequence of calls.
-fn turns(table: &mut [u8], list: &mut [u8], a: Asked, calls: u64) -> Counts {
-    let mut sum = none();
-    let mut seed = plus(a.n, plus(a.table, a.list));
-    let mut i = 0;
-    while i < calls {
-        seed = next(seed);
-        sum = turn(sum, table, list, a, seed, i);
-        i += 1;
-    }
-    sum
-}
-
-// Fills a room from byte `from` on, so that it shows where one writes past the end.
-fn fill_from(bytes: &mut [u8], from: u64) {
-    let mut i = from;
-    while i < 4224 {
-        model::put(bytes, i, 165);
-        i += 1;
-    }
-}
-
-// An empty room of so many bytes.
-fn room(size: u64) -> [u8; 4224]
-    ensures { 4224 ≡ length result }
-{
-    let mut bytes = model::room();
-    fill_from(&mut bytes, size);
-    bytes
+    counts
 }
 
 // ---- what is printed
 
-// Prints the setup.
-fn show_setup(rt: HostRuntime, a: Asked) -> io::Result<()> {
-    print!(rt; "N {} S {} H {} P {}", a.n, a.s, a.h, a.p)?;
-    print!(rt; ", channels {}, flows {}", a.table / 64, a.list / 64)
-}
+// What stands in the rooms past the ends of table and list.
+const FILLING: u8 = 165;
 
-// Prints how many there were of a kind, and how many did not do what they must.
-fn show_kind(rt: HostRuntime, name: &str, t: Tally) -> io::Result<()> {
-    print!(rt; "{name}{} differ {}", t.calls, t.differ)
-}
-
-// Prints the counts of a sequence.
-fn show(rt: HostRuntime, a: Asked, c: Counts) -> io::Result<()> {
-    let t = c.calls;
-    let d = c.damaged;
-    let s = c.selections;
-    show_setup(rt, a)?;
-    show_kind(rt, ": calls ", t)?;
-    show_kind(rt, ", damaged ", d)?;
-    show_kind(rt, ", selections ", s)?;
-    println!(rt; "")
-}
-
-// Runs a sequence from an empty table, and prints its line; the numbers given.
-fn run(rt: HostRuntime, a: Asked, calls: u64) -> io::Result<u64> {
-    let mut table = room(a.table);
-    let mut list = room(a.list);
-    let c = turns(&mut table, &mut list, a, calls);
-    show(rt, a, c)?;
-    Ok(c.given)
-}
-
-// Prints a number if it is in the set.
-fn show_given(rt: HostRuntime, given: u64, no: u64) -> io::Result<()> {
-    if given & only(no) == 0 {
-        return Ok(());
-    }
-    print!(rt; " {no}")
+// Runs a sequence from an empty table, and prints its line. Past the ends of table and list the rooms
+// are filled, so that it shows where one writes there.
+fn run(
+    rt: HostRuntime,
+    given: &mut Given,
+    wheel: Wheel,
+    channels: u8,
+    flows: u8,
+    calls: u64,
+) -> io::Result<()> {
+    let table = usize::from(channels) * model::ROW;
+    let list = usize::from(flows) * model::ROW;
+    let mut scene = Scene::empty(wheel);
+    scene.asked.table = table;
+    scene.asked.list = list;
+    scene.rooms.table[table.min(model::ROOM)..].fill(FILLING);
+    scene.rooms.list[list.min(model::ROOM)..].fill(FILLING);
+    let counts = turns(&mut scene, calls, given);
+    print!(rt; "{wheel}, channels {channels}, flows {flows}")?;
+    print!(rt;
+        ": calls {} differ {}",
+        counts.calls.calls, counts.calls.differ
+    )?;
+    print!(rt;
+        ", damaged {} differ {}",
+        counts.damaged.calls, counts.damaged.differ
+    )?;
+    println!(rt;
+        ", selections {} differ {}",
+        counts.selections.calls, counts.selections.differ
+    )
 }
 
 // Prints the numbers that were given, 0 for a yes.
-fn show_all_given(rt: HostRuntime, given: u64) -> io::Result<()> {
+fn show_given(rt: HostRuntime, given: Given) -> io::Result<()> {
     print!(rt; "numbers given:")?;
-    let mut i = 0;
-    while i < 16 {
-        show_given(rt, given, i)?;
-        i += 1;
+    if given.yes {
+        print!(rt; " 0")?;
+    }
+    for no in No::ALL {
+        if given.has(no) {
+            print!(rt; " {}", no as u64)?;
+        }
     }
     println!(rt; "")
 }
 
-// A wheel, channels and flows.
-fn made(n: u64, s: u64, h: u64, p: u64, channels: u64, flows: u64) -> Asked {
-    let mut a = trial::asked(n, s, h, p);
-    a.table = 64 * (channels % 128);
-    a.list = 64 * (flows % 128);
-    a
+// A wheel.
+fn wheel(n: u64, s: u64, h: u64, p: u64) -> Wheel {
+    Wheel { n, s, h, p }
 }
 
 // Wheels of up to 8 slots.
-fn small(rt: HostRuntime) -> io::Result<u64> {
-    let a = run(rt, made(1, 3, 1, 3, 1, 1), 600)?;
-    let b = run(rt, made(5, 3, 1, 3, 4, 8), 1200)?;
-    let c = run(rt, made(5, 2, 0, 1, 64, 64), 1200)?;
-    let d = run(rt, made(8, 3, 1, 3, 1, 8), 1200)?;
-    let e = run(rt, made(8, 3, 1, 3, 16, 16), 2000)?;
-    Ok(a | b | c | d | e | run(rt, made(8, 4, 3, 1, 4, 1), 1200)?)
+fn small(rt: HostRuntime, given: &mut Given) -> io::Result<()> {
+    run(rt, given, wheel(1, 3, 1, 3), 1, 1, 600)?;
+    run(rt, given, wheel(5, 3, 1, 3), 4, 8, 1200)?;
+    run(rt, given, wheel(5, 2, 0, 1), 64, 64, 1200)?;
+    run(rt, given, wheel(8, 3, 1, 3), 1, 8, 1200)?;
+    run(rt, given, wheel(8, 3, 1, 3), 16, 16, 2000)?;
+    run(rt, given, wheel(8, 4, 3, 1), 4, 1, 1200)
 }
 
 // Larger ones.
-fn large(rt: HostRuntime) -> io::Result<u64> {
-    let a = run(rt, made(16, 3, 1, 3, 16, 8), 1200)?;
-    let b = run(rt, made(16, 5, 2, 64, 64, 64), 1200)?;
-    let c = run(rt, made(64, 3, 1, 3, 64, 64), 1000)?;
-    let d = run(rt, made(64, 64, 63, 2, 16, 16), 1000)?;
-    Ok(a | b | c | d | run(rt, made(64, 3, 1, 20, 4, 16), 1000)?)
+fn large(rt: HostRuntime, given: &mut Given) -> io::Result<()> {
+    run(rt, given, wheel(16, 3, 1, 3), 16, 8, 1200)?;
+    run(rt, given, wheel(16, 5, 2, 64), 64, 64, 1200)?;
+    run(rt, given, wheel(64, 3, 1, 3), 64, 64, 1000)?;
+    run(rt, given, wheel(64, 64, 63, 2), 16, 16, 1000)?;
+    run(rt, given, wheel(64, 3, 1, 20), 4, 16, 1000)
 }
 
 fn main(rt: HostRuntime) -> io::Result<()> {
-    let a = small(rt)?;
-    let b = large(rt)?;
-    show_all_given(rt, a | b)
+    let mut given = Given::default();
+    small(rt, &mut given)?;
+    large(rt, &mut given)?;
+    show_given(rt, given)
 }

@@ -1,395 +1,54 @@
 // Opens and closes flows through the lent forms of the library, and prints every answer with the
 // report afterwards, and whether every byte of the table and every record are the model's: table and
 // list from before the call are written down as bytes, and the model does the same call there. Rows
-// and bare selection run too. A program has its list by value: sixteen records, lent whole for each
-// call.
+// and bare selection run too.
 #![tactic(auto)]
 
-ghost use Rattle.std.specs.Prelude.{◌≡◌, length};
-ghost use Rattle.rules.specs.Tells.{Tells};
-ghost use Rattle.rules.specs.Paths.{chip_of};
-ghost use Rattle.rules.specs.Orders.{Agrees};
-ghost use Rattle.rules.specs.Promises.{Opens, Closes, Reports};
+ghost use Rattle.jellyspire.specs.Lent.{OpensLent, ClosesLent};
 
-use model::{Asked, Call, Reply};
-use rules::{Cleared, Demand, Opened, Record, Refusal, Reported, Selected, State, Wheel, Words};
+use apart::No;
+use model::{Asked, Call, Reply, Rooms, Yes};
+use rules::{Demand, Grant, Path, Record, Refusal, State, Wheel, Words};
 use std::io;
 
-// The answer of an opening, and the list afterwards.
-#[derive(Clone, Copy)]
-struct OpenedList {
-    answer: Opened,
-    list: [Record; 16],
-}
-
-// The answer of a closing, and the list afterwards.
-#[derive(Clone, Copy)]
-struct ClearedList {
-    answer: Cleared,
-    list: [Record; 16],
-}
-
-fn opened_list(answer: Opened, list: [Record; 16]) -> OpenedList
-    ensures { (result.answer ≡ answer) × (result.list ≡ list) }
-{
-    OpenedList { answer, list }
-}
-
-fn cleared_list(answer: Cleared, list: [Record; 16]) -> ClearedList
-    ensures { (result.answer ≡ answer) × (result.list ≡ list) }
-{
-    ClearedList { answer, list }
-}
-
-// Opens a flow, with the list by value.
-fn open(
-    table: &mut [u8],
-    list: [Record; 16],
-    w: Wheel,
-    flow: usize,
-    path: [u16; 16],
-    len: usize,
-    demand: Demand,
-) -> OpenedList
-    ensures { Opens (chip_of w table.old) table.old (length list) list path len flow demand
-        table.new result.list result.answer }
-{
-    let mut l = list;
-    let answer = jellyspire::open(table, &mut l, w, flow, path, len, demand);
-    opened_list(answer, l)
-}
-
-// Closes a flow, with the list by value.
-fn close(table: &mut [u8], list: [Record; 16], w: Wheel, flow: usize) -> ClearedList
-    ensures { Closes (chip_of w table.old) table.old (length list) list flow table.new result.list result.answer }
-{
-    let mut l = list;
-    let answer = jellyspire::close(table, &mut l, w, flow);
-    cleared_list(answer, l)
-}
-
-// Reports free and held cells, with the list by value.
-fn report(table: &[u8], list: [Record; 16], w: Wheel) -> Reported
-    ensures { Reports (chip_of w table.now) table.now (length list) list result }
-{
-    jellyspire::report(table, &list, w)
-}
-
-// Whether table and list agree, with the list by value.
-fn agree(table: &[u8], list: [Record; 16], w: Wheel) -> bool
-    ensures { Tells result (Agrees (chip_of w table.now) table.now (length list) list) }
-{
-    jellyspire::agree(table, &list, w)
-}
-
-// A number of slots or cells, in 64 bits.
-fn long(v: usize) -> u64 {
-    v as u64
-}
-
-// A number of words, in 64 bits.
-fn wide(v: u16) -> u64 {
-    v as u64
-}
-
-// The number of a refusal in the table of document 01.
-fn code(q: Refusal) -> u64 {
-    match q {
-        Refusal::BadWheel => 1,
-        Refusal::BadTable => 2,
-        Refusal::BadList => 3,
-        Refusal::Disagree => 4,
-        Refusal::PathLength => 5,
-        Refusal::NoChannel => 6,
-        Refusal::ChannelTwice => 7,
-        Refusal::NoFlow => 8,
-        Refusal::AlreadyOpen => 9,
-        Refusal::NotOpen => 10,
-        Refusal::NoWords => 11,
-        Refusal::NoTime => 12,
-        Refusal::TooMuch => 13,
-        Refusal::TooFar => 14,
-        Refusal::SlotBeyond => 15,
-    }
-}
-
-fn refused(rt: HostRuntime, q: Refusal) -> io::Result<()> {
-    println!(rt; "refused {}", code(q))
-}
-
-fn say_opened(rt: HostRuntime, a: Opened) -> io::Result<()> {
-    match a {
-        Opened::Granted(g) => {
-            let words = g.words.0;
-            println!(rt; "granted {}: {} slots, {words} words", g.slots, g.count)
-        }
-        Opened::Refused(q) => refused(rt, q),
-    }
-}
-
-fn say_cleared(rt: HostRuntime, a: Cleared) -> io::Result<()> {
-    match a {
-        Cleared::Cells(k) => println!(rt; "cleared {k} cells"),
-        Cleared::Refused(q) => refused(rt, q),
-    }
-}
-
 // A wheel of 8 slots.
-fn wheel() -> Wheel {
-    Wheel {
-        n: 8,
-        s: Words(3),
-        h: Words(1),
-        p: 3,
-    }
-}
+const WHEEL: Wheel = Wheel {
+    n: 8,
+    s: Words(3),
+    h: Words(1),
+    p: 3,
+};
 
-// The path of a closed flow.
-fn no_path() -> [u16; 16] {
-    [0; 16]
+// The same, for the model.
+const MODEL_WHEEL: apart::Wheel = apart::Wheel {
+    n: 8,
+    s: 3,
+    h: 1,
+    p: 3,
+};
+
+// The cells of two channels.
+const CELLS: usize = 2 * model::ROW;
+
+// The path over channel 0 and then channel 1.
+const BOTH: [u16; 16] = [0, 1, 0, 0, 0, 0, 0, 0, 0, 0, 0, 0, 0, 0, 0, 0];
+
+// The table of two channels, and the list of sixteen flows.
+#[derive(Clone, Copy)]
+struct Lists {
+    table: [u8; CELLS],
+    list: [Record; 16],
 }
 
 // A list of sixteen closed flows.
-fn empty() -> [Record; 16] {
-    let path = no_path();
-    let r = Record {
+fn all_closed() -> [Record; 16] {
+    let entries: [u16; 16] = [0; 16];
+    let closed = Record {
         state: State::Closed,
-        path,
-        len: 0,
+        path: Path { entries, len: 0 },
         slots: 0,
     };
-    [r; 16]
-}
-
-// The path over channel 0 and then channel 1.
-fn path() -> [u16; 16] {
-    let mut p: [u16; 16] = [0; 16];
-    p[1] = 1;
-    p
-}
-
-fn say_reported(rt: HostRuntime, a: Reported) -> io::Result<()> {
-    match a {
-        Reported::Counted(c) => println!(rt; "free {}, held {}", c.free, c.held),
-        Reported::Refused(q) => refused(rt, q),
-    }
-}
-
-// Prints whether table and list agree.
-fn say_agreed(rt: HostRuntime, agreed: bool) -> io::Result<()> {
-    if agreed {
-        print!(rt; "agree, ")
-    } else {
-        print!(rt; "disagree, ")
-    }
-}
-
-// Prints whether table and list agree, and the report.
-fn say_report(rt: HostRuntime, table: &[u8], list: [Record; 16]) -> io::Result<()> {
-    say_agreed(rt, agree(table, list, wheel()))?;
-    let a = report(table, list, wheel());
-    say_reported(rt, a)
-}
-
-// ---- the model beside it
-
-// The number of a state: 1 if it is open.
-fn state_number(s: State) -> u64 {
-    match s {
-        State::Closed => 0,
-        State::Open(_) => 1,
-    }
-}
-
-// The words of a state, 0 if it is closed.
-fn state_words(s: State) -> u64 {
-    match s {
-        State::Closed => 0,
-        State::Open(d) => wide(d.words.0),
-    }
-}
-
-// The deadline of a state, 0 if it is closed.
-fn state_deadline(s: State) -> u64 {
-    match s {
-        State::Closed => 0,
-        State::Open(d) => wide(d.deadline),
-    }
-}
-
-// Writes all sixteen path entries of flow f, by docs/RECORD.md.
-fn put_path(bytes: &mut [u8], f: u64, path: [u16; 16]) {
-    let mut i = 0;
-    while i < 16 {
-        let v = wide(path[i]);
-        model::put_number(bytes, f, model::plus(4, long(i)), v);
-        i += 1;
-    }
-}
-
-// Writes the record of flow f, by docs/RECORD.md.
-fn put_record(bytes: &mut [u8], f: u64, r: Record) {
-    let s = r.state;
-    let path = r.path;
-    model::put_number(bytes, f, 0, state_number(s));
-    model::put_number(bytes, f, 1, state_words(s));
-    model::put_number(bytes, f, 2, state_deadline(s));
-    model::put_number(bytes, f, 3, long(r.len));
-    put_path(bytes, f, path);
-    model::put_slots(bytes, f, r.slots);
-}
-
-// The list as bytes, sixteen records in their room.
-fn bytes_of(list: [Record; 16]) -> [u8; 4224]
-    ensures { 4224 ≡ length result }
-{
-    let mut bytes = model::room();
-    let mut i = 0;
-    while i < 16 {
-        let r = list[i];
-        put_record(&mut bytes, model::plus(long(i), 1), r);
-        i += 1;
-    }
-    bytes
-}
-
-// The table in its room.
-fn copied(table: &[u8]) -> [u8; 4224]
-    ensures { 4224 ≡ length result }
-{
-    let mut bytes = model::room();
-    let mut i = 0;
-    while i < 128 {
-        let v = model::byte(table, i);
-        model::put(&mut bytes, i, v);
-        i += 1;
-    }
-    bytes
-}
-
-// What is asked of the model.
-fn asked(flow: usize, d: Demand) -> Asked {
-    let p = path();
-    Asked {
-        n: 8,
-        s: 3,
-        h: 1,
-        p: 3,
-        table: 128,
-        list: 1024,
-        flow: long(flow),
-        path: p,
-        len: 2,
-        words: wide(d.words.0),
-        deadline: wide(d.deadline),
-    }
-}
-
-// The answers in the model's form.
-fn opened_reply(a: Opened) -> Reply {
-    match a {
-        Opened::Granted(g) => model::answered(0, g.slots, long(g.count), wide(g.words.0)),
-        Opened::Refused(q) => model::refused(code(q)),
-    }
-}
-
-fn cleared_reply(a: Cleared) -> Reply {
-    match a {
-        Cleared::Cells(k) => model::answered(0, long(k), 0, 0),
-        Cleared::Refused(q) => model::refused(code(q)),
-    }
-}
-
-fn selected_reply(a: Selected) -> Reply {
-    match a {
-        Selected::Chosen(g) => model::answered(0, g.slots, long(g.count), wide(g.words.0)),
-        Selected::Refused(q) => model::refused(code(q)),
-    }
-}
-
-// Prints whether something is the model's.
-fn say_same(rt: HostRuntime, same: bool) -> io::Result<()> {
-    if same {
-        println!(rt; "as modelled")
-    } else {
-        println!(rt; "not as modelled")
-    }
-}
-
-// The model's call on table and list from before: whether it answers the same, and leaves this table
-// and this list.
-fn as_modelled(
-    call: Call,
-    a: Asked,
-    before: [u8; 4224],
-    list_before: [u8; 4224],
-    reply: Reply,
-    table: &[u8],
-    list: [u8; 4224],
-) -> bool {
-    let mut cells = before;
-    let mut records = list_before;
-    let r = model::answer(call, &mut cells, &mut records, a);
-    model::same_reply(r, reply) && model::same(table, &cells) && model::same(&list, &records)
-}
-
-// Opens a flow with the demand, and prints.
-fn opens(
-    rt: HostRuntime,
-    table: &mut [u8],
-    list: [Record; 16],
-    flow: usize,
-    demand: Demand,
-) -> io::Result<[Record; 16]> {
-    print!(rt; "open {flow}: ")?;
-    let before = copied(table);
-    let r = open(table, list, wheel(), flow, path(), 2, demand);
-    let a = r.answer;
-    say_opened(rt, a)?;
-    let after = r.list;
-    let asked = asked(flow, demand);
-    let reply = opened_reply(a);
-    let same = as_modelled(
-        Call::Open,
-        asked,
-        before,
-        bytes_of(list),
-        reply,
-        table,
-        bytes_of(after),
-    );
-    say_same(rt, same)?;
-    say_report(rt, table, after)?;
-    Ok(after)
-}
-
-// Closes a flow, and prints.
-fn closes(
-    rt: HostRuntime,
-    table: &mut [u8],
-    list: [Record; 16],
-    flow: usize,
-) -> io::Result<[Record; 16]> {
-    print!(rt; "close {flow}: ")?;
-    let before = copied(table);
-    let r = close(table, list, wheel(), flow);
-    let a = r.answer;
-    say_cleared(rt, a)?;
-    let after = r.list;
-    let asked = asked(flow, demand(0, 0));
-    let reply = cleared_reply(a);
-    let same = as_modelled(
-        Call::Close,
-        asked,
-        before,
-        bytes_of(list),
-        reply,
-        table,
-        bytes_of(after),
-    );
-    say_same(rt, same)?;
-    say_report(rt, table, after)?;
-    Ok(after)
+    [closed; 16]
 }
 
 // What flows ask for.
@@ -400,75 +59,225 @@ fn demand(words: u16, deadline: u16) -> Demand {
     }
 }
 
+impl Lists {
+    // Opens a flow over both channels.
+    fn open(&mut self, flow: usize, demand: Demand) -> Result<Grant, Refusal>
+        ensures { OpensLent WHEEL self.old.table self.old.list BOTH 2 flow demand self.new.table self.new.list result }
+    {
+        jellyspire::open(
+            &mut self.table,
+            &mut self.list,
+            WHEEL,
+            flow,
+            BOTH,
+            2,
+            demand,
+        )
+    }
+
+    // Closes a flow; how many cells that cleared.
+    fn close(&mut self, flow: usize) -> Result<usize, Refusal>
+        ensures { ClosesLent WHEEL self.old.table self.old.list flow self.new.table self.new.list result }
+    {
+        jellyspire::close(&mut self.table, &mut self.list, WHEEL, flow)
+    }
+
+    // Table and list as bytes.
+    fn rooms(&self) -> Rooms {
+        let mut table: [u8; model::ROOM] = [0; model::ROOM];
+        table[..CELLS].copy_from_slice(&self.table);
+        let mut list: [u8; model::ROOM] = [0; model::ROOM];
+        for (flow, record) in (1..=16).zip(&self.list) {
+            as_model(record).write(&mut list, flow);
+        }
+        Rooms { table, list }
+    }
+}
+
+// ---- the model beside it
+
+// A record as the model has it, by docs/RECORD.md.
+fn as_model(record: &Record) -> model::Record {
+    let channels = record.path.entries;
+    let rest: [u16; 8] = [0; 8];
+    let (state, words, deadline) = match record.state {
+        State::Closed => (0, 0, 0),
+        State::Open(demand) => (1, demand.words.0, demand.deadline),
+    };
+    model::Record {
+        state,
+        words,
+        deadline,
+        len: u16::try_from(record.path.len).unwrap_or(u16::MAX),
+        channels,
+        slots: record.slots,
+        rest,
+    }
+}
+
+// What is asked of the model.
+fn asked(flow: usize, demand: Demand) -> Asked {
+    Asked {
+        wheel: MODEL_WHEEL,
+        table: CELLS,
+        list: 16 * model::ROW,
+        flow: flow as u64,
+        path: model::Path::over(&[0, 1]),
+        demand: model::Demand {
+            words: u64::from(demand.words.0),
+            deadline: u64::from(demand.deadline),
+        },
+    }
+}
+
+// A grant in the model's form.
+fn granted(grant: Grant) -> apart::Grant {
+    apart::Grant {
+        slots: grant.slots,
+        count: grant.count as u64,
+        words: u64::from(grant.words.0),
+    }
+}
+
+// The model's no with the number of a refusal.
+fn no_of(refusal: Refusal) -> Option<No> {
+    No::of_number(refusal as u64)
+}
+
+// Whether the model, on rooms from before, answers the same and leaves this table and this list.
+fn is_modelled(
+    call: Call,
+    asked: &Asked,
+    before: Rooms,
+    reply: Result<Yes, Refusal>,
+    after: &Lists,
+) -> bool {
+    let mut rooms = before;
+    let modelled = model::answer(call, &mut rooms.table, &mut rooms.list, asked);
+    modelled.map_err(Some) == reply.map_err(no_of) && rooms == after.rooms()
+}
+
+// ---- what is printed
+
+// Prints whether something is the model's.
+fn say_modelled(rt: HostRuntime, same: bool) -> io::Result<()> {
+    if same {
+        println!(rt; "as modelled")
+    } else {
+        println!(rt; "not as modelled")
+    }
+}
+
+// Prints a refusal.
+fn say_refused(rt: HostRuntime, refusal: Refusal) -> io::Result<()> {
+    println!(rt; "refused {}", refusal as u64)
+}
+
+// Prints whether table and list agree, and the report.
+fn say_report(rt: HostRuntime, lists: &Lists) -> io::Result<()> {
+    if jellyspire::agree(&lists.table, &lists.list, WHEEL) {
+        print!(rt; "agree, ")?;
+    } else {
+        print!(rt; "disagree, ")?;
+    }
+    match jellyspire::report(&lists.table, &lists.list, WHEEL) {
+        Ok(totals) => println!(rt; "free {}, held {}", totals.free, totals.held),
+        Err(refusal) => say_refused(rt, refusal),
+    }
+}
+
+// Opens a flow with the demand, and prints.
+fn opens(rt: HostRuntime, lists: &mut Lists, flow: usize, demand: Demand) -> io::Result<()> {
+    let before = lists.rooms();
+    let answer = lists.open(flow, demand);
+    print!(rt; "open {flow}: ")?;
+    match answer {
+        Ok(grant) => {
+            let words = grant.words.0;
+            println!(rt;
+                "granted {}: {} slots, {words} words",
+                grant.slots, grant.count
+            )?;
+        }
+        Err(refusal) => say_refused(rt, refusal)?,
+    }
+    let reply = answer.map(|grant| Yes::Granted(granted(grant)));
+    let asked = asked(flow, demand);
+    say_modelled(rt, is_modelled(Call::Open, &asked, before, reply, lists))?;
+    say_report(rt, lists)
+}
+
+// Closes a flow, and prints.
+fn closes(rt: HostRuntime, lists: &mut Lists, flow: usize) -> io::Result<()> {
+    let before = lists.rooms();
+    let answer = lists.close(flow);
+    print!(rt; "close {flow}: ")?;
+    match answer {
+        Ok(cells) => println!(rt; "cleared {cells} cells")?,
+        Err(refusal) => say_refused(rt, refusal)?,
+    }
+    let reply = answer.map(|cells| Yes::Cleared(cells as u64));
+    let asked = asked(flow, demand(0, 0));
+    say_modelled(rt, is_modelled(Call::Close, &asked, before, reply, lists))?;
+    say_report(rt, lists)
+}
+
 // A grant; the same flow again; and the last flow of the list.
-fn opening(rt: HostRuntime, table: &mut [u8]) -> io::Result<[Record; 16]> {
-    let a = opens(rt, table, empty(), 3, demand(4, 12))?;
-    let b = opens(rt, table, a, 3, demand(4, 12))?;
-    opens(rt, table, b, 16, demand(9, 12))
+fn opening(rt: HostRuntime, lists: &mut Lists) -> io::Result<()> {
+    opens(rt, lists, 3, demand(4, 12))?;
+    opens(rt, lists, 3, demand(4, 12))?;
+    opens(rt, lists, 16, demand(9, 12))
 }
 
 // A flow past the end of the list; and more words than there is room for.
-fn refusing(rt: HostRuntime, table: &mut [u8], list: [Record; 16]) -> io::Result<[Record; 16]> {
-    let a = opens(rt, table, list, 17, demand(1, 12))?;
-    opens(rt, table, a, 1, demand(60, 12))
+fn refusing(rt: HostRuntime, lists: &mut Lists) -> io::Result<()> {
+    opens(rt, lists, 17, demand(1, 12))?;
+    opens(rt, lists, 1, demand(60, 12))
 }
 
 // A flow that is not open; the two that are; and one of them again.
-fn closing(rt: HostRuntime, table: &mut [u8], list: [Record; 16]) -> io::Result<()> {
-    let a = closes(rt, table, list, 2)?;
-    let b = closes(rt, table, a, 3)?;
-    let c = closes(rt, table, b, 3)?;
-    closes(rt, table, c, 16)?;
-    Ok(())
+fn closing(rt: HostRuntime, lists: &mut Lists) -> io::Result<()> {
+    closes(rt, lists, 2)?;
+    closes(rt, lists, 3)?;
+    closes(rt, lists, 3)?;
+    closes(rt, lists, 16)
 }
 
 // A deadline that the path alone uses up; a grant; a list that does not know of it; and the one that
 // does.
-fn disagreeing(rt: HostRuntime, table: &mut [u8]) -> io::Result<()> {
-    let a = opens(rt, table, empty(), 1, demand(4, 2))?;
-    let b = opens(rt, table, a, 1, demand(4, 12))?;
-    closes(rt, table, empty(), 1)?;
-    closes(rt, table, b, 1)?;
-    Ok(())
-}
-
-// Whether a row of so many cells holds those of a channel.
-fn row_right(row: &[u8], table: &[u8], channel: usize, cells: usize) -> bool {
-    if row.len() != cells {
-        return false;
-    }
-    let from = model::least(long(channel) % 64 * 64, table.len());
-    model::same(row, &table[from..])
+fn disagreeing(rt: HostRuntime, lists: &mut Lists) -> io::Result<()> {
+    opens(rt, lists, 1, demand(4, 2))?;
+    opens(rt, lists, 1, demand(4, 12))?;
+    let mut unknowing = *lists;
+    unknowing.list = all_closed();
+    closes(rt, &mut unknowing, 1)?;
+    closes(rt, lists, 1)
 }
 
 // The rows of both channels, and of one that is not there.
-fn rows(rt: HostRuntime, table: &[u8]) -> io::Result<()> {
+fn rows(rt: HostRuntime, table: &[u8; CELLS]) -> io::Result<()> {
     print!(rt; "row 0: ")?;
-    say_same(
-        rt,
-        row_right(jellyspire::row(table, wheel(), 0), table, 0, 8),
-    )?;
+    say_modelled(rt, jellyspire::row(table, WHEEL, 0) == &table[..8])?;
     print!(rt; "row 1: ")?;
-    say_same(
-        rt,
-        row_right(jellyspire::row(table, wheel(), 1), table, 1, 8),
-    )?;
+    say_modelled(rt, jellyspire::row(table, WHEEL, 1) == &table[64..72])?;
     print!(rt; "row 2: ")?;
-    say_same(
-        rt,
-        row_right(jellyspire::row(table, wheel(), 2), table, 2, 0),
-    )
+    say_modelled(rt, jellyspire::row(table, WHEEL, 2).is_empty())
 }
 
 // Bare selection among the slots, and the same of the model.
 fn selects(rt: HostRuntime, free: u64, words: u16, limit: u16) -> io::Result<()> {
-    let a = jellyspire::select(wheel(), free, Words(words), limit);
-    let r = selected_reply(a);
-    print!(rt; "select: {}, ", r.one)?;
-    let asked = asked(1, demand(words, 0));
-    say_same(
+    let answer = jellyspire::select(WHEEL, free, Words(words), limit);
+    let modelled = model::select(apart::Asked {
+        wheel: MODEL_WHEEL,
+        free,
+        words: u64::from(words),
+        limit: u64::from(limit),
+    });
+    let slots = answer.map_or(0, |grant| grant.slots);
+    print!(rt; "select: {slots}, ")?;
+    say_modelled(
         rt,
-        model::same_reply(r, model::select(asked, free, wide(limit))),
+        answer.map(granted).map_err(no_of) == modelled.map_err(Some),
     )
 }
 
@@ -481,16 +290,16 @@ fn selecting(rt: HostRuntime) -> io::Result<()> {
     selects(rt, 256, 1, 8)
 }
 
-fn run(rt: HostRuntime, table: &mut [u8]) -> io::Result<()> {
-    let a = opening(rt, table)?;
-    let b = refusing(rt, table, a)?;
-    rows(rt, table)?;
-    closing(rt, table, b)?;
-    disagreeing(rt, table)?;
-    selecting(rt)
-}
-
 fn main(rt: HostRuntime) -> io::Result<()> {
-    let mut table: [u8; 128] = [0; 128];
-    run(rt, &mut table)
+    let list = all_closed();
+    let mut lists = Lists {
+        table: [0; CELLS],
+        list,
+    };
+    opening(rt, &mut lists)?;
+    refusing(rt, &mut lists)?;
+    rows(rt, &lists.table)?;
+    closing(rt, &mut lists)?;
+    disagreeing(rt, &mut lists)?;
+    selecting(rt)
 }

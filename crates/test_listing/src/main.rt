@@ -19,10 +19,10 @@ fn name_room() -> [u8; 4096] {
 fn main(rt: HostRuntime) -> io::Result<()> {
     let mut room = name_room();
     for k in 1..usize::MAX {
-        match input::argument(&rt, k, &mut room)? {
-            Some(name) => one(rt, name)?,
-            None => return Ok(()),
-        }
+        let Some(name) = input::argument(&rt, k, &mut room)? else {
+            break;
+        };
+        one(rt, name)?;
     }
     Ok(())
 }

@@ -1,431 +1,271 @@
 // Every refusal by itself, and every two of them at once. Each condition of document 01 is brought
 // about in several ways, by itself and together with each way of every later condition of the call's
-// order that can hold beside it: the first of the two numbers must be given, with zeros beside it,
-// and every byte of table and list stay. The orders are written down here. A line for each number of
-// an order counts the calls that must give it; how many these are follows from the ways below.
+// order that can hold beside it: the first of the two numbers must be given, and every byte of table
+// and list stay. The orders are written down here. A line for each number of an order counts the
+// calls that must give it; how many these are follows from the ways below.
 #![tactic(auto)]
 
-use model::{Asked, Call};
+use apart::{Grant, No, Wheel};
+use model::{Call, Yes};
 use std::io;
-use trial::{Hit, Tally};
+use trial::{Scene, Tally, WHEEL};
 
 // ---- the orders
 
-// Whether a number stands in the order of a call. All orders rise.
-fn in_order(call: Call, no: u64) -> bool {
+// The order of a call's refusals.
+fn order(call: Call) -> &'static [No] {
     match call {
-        Call::Open => 1 <= no && no <= 14 && no != 10,
-        Call::Close => 1 <= no && no <= 4 || no == 8 || no == 10,
-        Call::Report => 1 <= no && no <= 4,
-        Call::Agree => 1 <= no && no <= 4,
+        Call::Open => &[
+            No::BadWheel,
+            No::BadTable,
+            No::BadList,
+            No::Disagree,
+            No::PathLength,
+            No::NoChannel,
+            No::ChannelTwice,
+            No::NoFlow,
+            No::AlreadyOpen,
+            No::NoWords,
+            No::NoLimit,
+            No::TooMuch,
+            No::TooFar,
+        ],
+        Call::Close => &[
+            No::BadWheel,
+            No::BadTable,
+            No::BadList,
+            No::Disagree,
+            No::NoFlow,
+            No::NotOpen,
+        ],
+        Call::Report | Call::Agree => &[No::BadWheel, No::BadTable, No::BadList, No::Disagree],
     }
 }
 
-// Whether two numbers, the first below the second, cannot hold together: a flow that is not there is
-// neither open nor closed; no words are delivered by the empty set, which has no gap; and 14 says
+// Whether two refusals, the first before the second, cannot hold together: a flow that is not there
+// is neither open nor closed; no words are delivered by the empty set, which has no gap; and 14 says
 // that some set delivers, 13 that none does.
-fn exclude(no: u64, later: u64) -> bool {
-    match no {
-        8 => later == 9 || later == 10,
-        11 => later == 13 || later == 14,
-        13 => later == 14,
-        _ => false,
-    }
+fn exclude(no: No, later: No) -> bool {
+    matches!(
+        (no, later),
+        (No::NoFlow, No::AlreadyOpen | No::NotOpen)
+            | (No::NoWords, No::TooMuch | No::TooFar)
+            | (No::TooMuch, No::TooFar)
+    )
 }
 
 // ---- the conditions, each in several ways
 
-// With another wheel.
-fn with_wheel(a: Asked, n: u64, s: u64, h: u64, p: u64) -> Asked {
-    let mut k = a;
-    k.n = n;
-    k.s = s;
-    k.h = h;
-    k.p = p;
-    k
+// A change of what is asked, or of a byte.
+#[derive(Clone, Copy)]
+enum Change {
+    Wheel(Wheel),
+    Table(usize),
+    List(usize),
+    TableByte(usize, u8),
+    ListByte(usize, u8),
+    Length(u64),
+    Channel(usize, u16),
+    // The path's channel at this position once more as its third.
+    Again(usize),
+    Flow(u64),
+    // The flow after the list's last.
+    NextFlow,
+    Words(u64),
+    Deadline(u64),
+    // A deadline of the path's length.
+    LengthOnly,
+    // A deadline that allows a gap of this, or the deadline that there is, if that allows less.
+    Gap(u64),
 }
 
-// A value of the wheel outside its range.
-fn bad_wheel(a: Asked, way: u64) -> Asked {
-    match way {
-        0 => with_wheel(a, 0, 3, 1, 3),
-        1 => with_wheel(a, 65, 3, 1, 3),
-        2 => with_wheel(a, 8, 1, 0, 3),
-        3 => with_wheel(a, 8, 65, 1, 3),
-        4 => with_wheel(a, 8, 3, 3, 3),
-        5 => with_wheel(a, 8, 3, 1, 0),
-        _ => with_wheel(a, 8, 3, 1, 65),
-    }
-}
-
-// A length that is 0, no multiple of 64, or of 65 rows.
-fn bad_size(way: u64) -> u64 {
-    match way {
-        0 => 0,
-        1 => 63,
-        2 => 65,
-        3 => 511,
-        _ => 4160,
-    }
-}
-
-// A table of such a length.
-fn bad_table(a: Asked, way: u64) -> Asked {
-    let mut k = a;
-    k.table = bad_size(way);
-    k
-}
-
-// A list of such a length.
-fn bad_list(a: Asked, way: u64) -> Asked {
-    let mut k = a;
-    k.list = bad_size(way);
-    k
-}
-
-// What makes table and list disagree: a free cell with a flow's number, a cell from N on that is not
-// 0, a claimed cell that is; a closed record that has slots, and one more word than flow 2's slots
-// deliver.
-fn at_odds(way: u64) -> Hit {
-    match way {
-        0 => trial::hit_table(5, 1),
-        1 => trial::hit_table(40, 200),
-        2 => trial::hit_table(0, 0),
-        3 => trial::hit_list(168, 1),
-        _ => trial::hit_list(66, 7),
-    }
-}
-
-// A path length that is 0 or above 16.
-fn bad_length(a: Asked, way: u64) -> Asked {
-    let mut k = a;
-    k.len = match way {
-        0 => 0,
-        1 => 17,
-        2 => 65539,
-        _ => 4294967299,
-    };
-    k
-}
-
-// The path with this channel at a position.
-fn with_channel(a: Asked, at: usize, channel: u16) -> Asked {
-    let mut path = a.path;
-    if at < 16 {
-        path[at] = channel;
-    }
-    let mut k = a;
-    k.path = path;
-    k
-}
-
-// A channel that is not there: the first after the table's, and the largest number.
-fn far_path(a: Asked, way: u64) -> Asked {
-    match way {
-        0 => with_channel(a, 0, 16),
-        _ => with_channel(a, 1, 65535),
-    }
-}
-
-// The path's first or second channel once more as its third; the second may be one that is not there.
-fn turning_path(a: Asked, way: u64) -> Asked {
-    let path = a.path;
-    match way {
-        0 => with_channel(a, 2, path[0]),
-        _ => with_channel(a, 2, path[1]),
-    }
-}
-
-// A flow that the list does not have.
-fn no_flow(a: Asked, way: u64) -> Asked {
-    match way {
-        0 => trial::with_flow(a, 0),
-        1 => trial::with_flow(a, model::plus(a.list / 64, 1)),
-        _ => trial::with_flow(a, 1099511627777),
-    }
-}
-
-// With another number of words.
-fn with_words(a: Asked, words: u64) -> Asked {
-    let mut k = a;
-    k.words = words;
-    k
-}
-
-// With another deadline, which 16 bits can say.
-fn with_deadline(a: Asked, deadline: u64) -> Asked {
-    let mut k = a;
-    k.deadline = if 65535 < deadline { 65535 } else { deadline };
-    k
-}
-
-// The smaller of two numbers.
-fn least(a: u64, b: u64) -> u64 {
-    if a < b { a } else { b }
-}
-
-// A deadline that is not above the path's length.
-fn no_time(a: Asked, way: u64) -> Asked {
-    match way {
-        0 => with_deadline(a, a.len),
-        _ => with_deadline(a, 0),
-    }
-}
-
-// More words than the four free slots of the path deliver.
-fn too_much(a: Asked, way: u64) -> Asked {
-    match way {
-        0 => with_words(a, 11),
-        _ => with_words(a, 65535),
-    }
-}
-
-// A deadline that allows a gap of 1, or of 3, where the free slots of the path leave one of 4; or the
-// deadline that there is, if that allows still less.
-fn too_soon(a: Asked, way: u64) -> Asked {
-    match way {
-        0 => with_deadline(a, least(a.deadline, model::plus(a.len, 1))),
-        _ => with_deadline(a, least(a.deadline, model::plus(a.len, 3))),
-    }
-}
-
-// In how many ways a number's condition is brought about.
-fn ways(no: u64) -> u64 {
+// The ways in which a refusal's condition is brought about.
+fn ways(no: No) -> &'static [Change] {
     match no {
-        1 => 7,
-        2 | 3 | 4 => 5,
-        5 => 4,
-        8 => 3,
-        11 => 1,
-        _ => 2,
+        // A value outside its range.
+        No::BadWheel => &[
+            Change::Wheel(Wheel { n: 0, ..WHEEL }),
+            Change::Wheel(Wheel { n: 65, ..WHEEL }),
+            Change::Wheel(Wheel {
+                s: 1,
+                h: 0,
+                ..WHEEL
+            }),
+            Change::Wheel(Wheel { s: 65, ..WHEEL }),
+            Change::Wheel(Wheel { h: 3, ..WHEEL }),
+            Change::Wheel(Wheel { p: 0, ..WHEEL }),
+            Change::Wheel(Wheel { p: 65, ..WHEEL }),
+        ],
+        // A length that is 0, no multiple of 64, or of 65 rows.
+        No::BadTable => &[
+            Change::Table(0),
+            Change::Table(63),
+            Change::Table(65),
+            Change::Table(511),
+            Change::Table(4160),
+        ],
+        No::BadList => &[
+            Change::List(0),
+            Change::List(63),
+            Change::List(65),
+            Change::List(511),
+            Change::List(4160),
+        ],
+        // A free cell with a flow's number, a cell from N on that is not 0, a claimed cell that is; a
+        // closed record that has slots, and one more word than flow 2's slots deliver.
+        No::Disagree => &[
+            Change::TableByte(5, 1),
+            Change::TableByte(40, 200),
+            Change::TableByte(0, 0),
+            Change::ListByte(168, 1),
+            Change::ListByte(66, 7),
+        ],
+        // A length that is 0 or above 16.
+        No::PathLength => &[
+            Change::Length(0),
+            Change::Length(17),
+            Change::Length(65539),
+            Change::Length(4294967299),
+        ],
+        // The first channel after the table's, and the largest number.
+        No::NoChannel => &[Change::Channel(0, 16), Change::Channel(1, 65535)],
+        // The second may be one that is not there.
+        No::ChannelTwice => &[Change::Again(0), Change::Again(1)],
+        // A flow that the list does not have.
+        No::NoFlow => &[
+            Change::Flow(0),
+            Change::NextFlow,
+            Change::Flow(1099511627777),
+        ],
+        No::AlreadyOpen => &[Change::Flow(1), Change::Flow(7)],
+        No::NotOpen => &[Change::Flow(3), Change::Flow(8)],
+        No::NoWords => &[Change::Words(0)],
+        No::NoLimit => &[Change::LengthOnly, Change::Deadline(0)],
+        // More words than the four free slots of the path deliver.
+        No::TooMuch => &[Change::Words(11), Change::Words(65535)],
+        // The free slots of the path leave a gap of 4.
+        No::TooFar => &[Change::Gap(1), Change::Gap(3)],
+        _ => &[],
     }
 }
 
-// What is asked, with a condition of the wheel, the lengths or the path.
-fn spoilt_state(a: Asked, no: u64, way: u64) -> Asked {
-    match no {
-        1 => bad_wheel(a, way),
-        2 => bad_table(a, way),
-        3 => bad_list(a, way),
-        5 => bad_length(a, way),
-        6 => far_path(a, way),
-        7 => turning_path(a, way),
-        _ => a,
+// The scene with a change.
+fn with(scene: &Scene, change: Change) -> Scene {
+    let mut changed = *scene;
+    let len = scene.asked.path.len;
+    let deadline = scene.asked.demand.deadline;
+    match change {
+        Change::Wheel(wheel) => changed.asked.wheel = wheel,
+        Change::Table(size) => changed.asked.table = size,
+        Change::List(size) => changed.asked.list = size,
+        Change::TableByte(at, value) => changed.rooms.table[at % model::ROOM] = value,
+        Change::ListByte(at, value) => changed.rooms.list[at % model::ROOM] = value,
+        Change::Length(len) => changed.asked.path.len = len,
+        Change::Channel(at, channel) => changed.asked.path.channels[at % 16] = channel,
+        Change::Again(at) => {
+            changed.asked.path.channels[2] = scene.asked.path.channels[at % 16];
+        }
+        Change::Flow(flow) => changed.asked.flow = flow,
+        Change::NextFlow => changed.asked.flow = (scene.asked.list / model::ROW) as u64 + 1,
+        Change::Words(words) => changed.asked.demand.words = words,
+        Change::Deadline(deadline) => changed.asked.demand.deadline = deadline,
+        Change::LengthOnly => changed.asked.demand.deadline = len.min(65535),
+        Change::Gap(gap) => {
+            changed.asked.demand.deadline = deadline.min(len.saturating_add(gap)).min(65535);
+        }
     }
-}
-
-// What is asked, with a condition of the flow or the demand: the flow is not there, it is open, or it
-// is closed.
-fn spoilt_demand(a: Asked, no: u64, way: u64) -> Asked {
-    match no {
-        8 => no_flow(a, way),
-        9 => trial::with_flow(a, if way == 0 { 1 } else { 7 }),
-        10 => trial::with_flow(a, if way == 0 { 3 } else { 8 }),
-        11 => with_words(a, 0),
-        12 => no_time(a, way),
-        13 => too_much(a, way),
-        _ => too_soon(a, way),
-    }
-}
-
-// What is asked, with a number's condition; 4 is a matter of the bytes.
-fn spoilt(a: Asked, no: u64, way: u64) -> Asked {
-    if no < 8 {
-        spoilt_state(a, no, way)
-    } else {
-        spoilt_demand(a, no, way)
-    }
-}
-
-// The byte that a number's condition changes, if it is 4; else that of a condition before.
-fn damage(h: Hit, no: u64, way: u64) -> Hit {
-    if no == 4 { at_odds(way) } else { h }
+    changed
 }
 
 // ---- the calls
 
-// A number's condition together with a later one, in each of its ways.
-fn with_later(
-    t: Tally,
-    call: Call,
-    table: &[u8],
-    list: &[u8],
-    a: Asked,
-    h: Hit,
-    no: u64,
-    later: u64,
-) -> Tally {
-    let end = ways(later);
-    let mut sum = t;
-    let mut way = 0;
-    while way < end {
-        let k = spoilt(a, later, way);
-        sum = trial::refused(sum, call, table, list, k, damage(h, later, way), no);
-        way += 1;
-    }
-    sum
-}
-
-// Whether a later number is tried together with another.
-fn goes_with(call: Call, no: u64, later: u64) -> bool {
-    no < later && in_order(call, later) && !exclude(no, later)
-}
-
-// One way of a number's condition, by itself and with every later one.
-fn one_way(t: Tally, call: Call, table: &[u8], list: &[u8], a: Asked, h: Hit, no: u64) -> Tally {
-    let mut sum = trial::refused(t, call, table, list, a, h, no);
-    let mut later = 1;
-    while later < 15 {
-        if goes_with(call, no, later) {
-            sum = with_later(sum, call, table, list, a, h, no, later);
+// Each way of a refusal's condition, by itself and together with each way of every later one.
+fn every_way(call: Call, scene: &Scene, no: No, later: &[No]) -> Tally {
+    let mut tally = Tally::default();
+    for way in ways(no) {
+        let one = with(scene, *way);
+        tally.refused(call, &one, no);
+        for other in later {
+            if !exclude(no, *other) {
+                with_later(&mut tally, call, &one, no, *other);
+            }
         }
-        later += 1;
     }
-    sum
+    tally
 }
 
-// Every way of a number's condition.
-fn every_way(call: Call, table: &[u8], list: &[u8], a: Asked, no: u64) -> Tally {
-    let end = ways(no);
-    let mut sum = trial::none();
-    let mut way = 0;
-    while way < end {
-        let h = damage(trial::unhit(), no, way);
-        sum = one_way(sum, call, table, list, spoilt(a, no, way), h, no);
-        way += 1;
+// A refusal's condition together with a later one, in each of its ways.
+fn with_later(tally: &mut Tally, call: Call, scene: &Scene, no: No, later: No) {
+    for way in ways(later) {
+        tally.refused(call, &with(scene, *way), no);
     }
-    sum
 }
 
-// The line of a number of an order.
-fn number_line(
-    rt: HostRuntime,
-    call: Call,
-    name: &str,
-    table: &[u8],
-    list: &[u8],
-    a: Asked,
-    no: u64,
-) -> io::Result<()> {
-    if !in_order(call, no) {
-        return Ok(());
-    }
-    line(rt, name, no, every_way(call, table, list, a, no))
-}
-
-// Every number of the order of a call, a line each.
-fn every_number(
-    rt: HostRuntime,
-    call: Call,
-    name: &str,
-    table: &[u8],
-    list: &[u8],
-    a: Asked,
-) -> io::Result<()> {
-    let mut no = 1;
-    while no < 15 {
-        number_line(rt, call, name, table, list, a, no)?;
-        no += 1;
+// Every refusal of the order of a call, a line each.
+fn every_number(rt: HostRuntime, call: Call, name: &str, scene: &Scene) -> io::Result<()> {
+    let order = order(call);
+    for (i, no) in order.iter().enumerate() {
+        let tally = every_way(call, scene, *no, &order[i + 1..]);
+        println!(rt; "{name} {}: {tally}", *no as u64)?;
     }
     Ok(())
 }
 
 // No condition: an opening at ease, and one that takes each free slot of its path and the whole gap
 // that its deadline allows.
-fn grants(table: &[u8], list: &[u8], a: Asked) -> Tally {
-    let easy = model::answered(0, 0b100, 1, 2);
-    let one = trial::replied(
-        trial::none(),
-        Call::Open,
-        table,
-        list,
-        a,
-        trial::unhit(),
-        easy,
-    );
-    let most = with_deadline(with_words(a, 10), 7);
-    let all = model::answered(0, 0b1101100, 4, 10);
-    trial::replied(one, Call::Open, table, list, most, trial::unhit(), all)
+fn grants(scene: &Scene) -> Tally {
+    let mut tally = Tally::default();
+    let easy = Grant {
+        slots: 0b100,
+        count: 1,
+        words: 2,
+    };
+    tally.answered(Call::Open, scene, Yes::Granted(easy));
+    let most = Grant {
+        slots: 0b1101100,
+        count: 4,
+        words: 10,
+    };
+    tally.answered(Call::Open, &scene.with_demand(10, 7), Yes::Granted(most));
+    tally
 }
 
-// A closing that must clear so many cells.
-fn closes(t: Tally, table: &[u8], list: &[u8], a: Asked, flow: u64, cells: u64) -> Tally {
-    let reply = model::answered(0, cells, 0, 0);
-    let k = trial::with_flow(a, flow);
-    trial::replied(t, Call::Close, table, list, k, trial::unhit(), reply)
+// No condition: each flow closed, with so many cells.
+fn closings(scene: &Scene) -> Tally {
+    let mut tally = Tally::default();
+    for (flow, cells) in [(1, 4), (2, 6), (5, 2), (7, 24)] {
+        tally.answered(Call::Close, &scene.with_flow(flow), Yes::Cleared(cells));
+    }
+    tally
 }
 
-// No condition: each flow closed.
-fn closings(table: &[u8], list: &[u8], a: Asked) -> Tally {
-    let one = closes(trial::none(), table, list, a, 1, 4);
-    let two = closes(one, table, list, a, 2, 6);
-    let five = closes(two, table, list, a, 5, 2);
-    closes(five, table, list, a, 7, 24)
-}
-
-// No condition: free and held cells.
-fn reports(table: &[u8], list: &[u8], a: Asked) -> Tally {
-    let reply = model::answered(0, 92, 36, 0);
-    trial::replied(
-        trial::none(),
-        Call::Report,
-        table,
-        list,
-        a,
-        trial::unhit(),
-        reply,
-    )
-}
-
-// No condition: table and list agree.
-fn agrees(table: &[u8], list: &[u8], a: Asked) -> Tally {
-    let reply = model::refused(0);
-    trial::replied(
-        trial::none(),
-        Call::Agree,
-        table,
-        list,
-        a,
-        trial::unhit(),
-        reply,
-    )
+// No condition: the yes of a call that only reads.
+fn reads(call: Call, scene: &Scene, yes: Yes) -> Tally {
+    let mut tally = Tally::default();
+    tally.answered(call, scene, yes);
+    tally
 }
 
 // ---- what is printed
 
-// Prints the calls of a kind that must give a number; 0 is a yes.
-fn line(rt: HostRuntime, name: &str, no: u64, t: Tally) -> io::Result<()> {
-    print!(rt; "{name}{no}")?;
-    trial::line(rt, "", t)
-}
-
 // Opening and closing.
-fn changing(rt: HostRuntime, table: &[u8], list: &[u8], a: Asked) -> io::Result<()> {
-    line(rt, "open ", 0, grants(table, list, a))?;
-    every_number(rt, Call::Open, "open ", table, list, a)?;
-    line(rt, "close ", 0, closings(table, list, a))?;
-    every_number(
-        rt,
-        Call::Close,
-        "close ",
-        table,
-        list,
-        trial::with_flow(a, 1),
-    )
+fn changing(rt: HostRuntime, scene: &Scene) -> io::Result<()> {
+    println!(rt; "open 0: {}", grants(scene))?;
+    every_number(rt, Call::Open, "open", scene)?;
+    println!(rt; "close 0: {}", closings(scene))?;
+    every_number(rt, Call::Close, "close", &scene.with_flow(1))
 }
 
 // The report and agreement.
-fn reading(rt: HostRuntime, table: &[u8], list: &[u8], a: Asked) -> io::Result<()> {
-    line(rt, "report ", 0, reports(table, list, a))?;
-    every_number(rt, Call::Report, "report ", table, list, a)?;
-    line(rt, "agree ", 0, agrees(table, list, a))?;
-    every_number(rt, Call::Agree, "agree ", table, list, a)
+fn reading(rt: HostRuntime, scene: &Scene) -> io::Result<()> {
+    println!(rt; "report 0: {}", reads(Call::Report, scene, trial::COUNTED))?;
+    every_number(rt, Call::Report, "report", scene)?;
+    println!(rt; "agree 0: {}", reads(Call::Agree, scene, Yes::Agreed))?;
+    every_number(rt, Call::Agree, "agree", scene)
 }
 
 fn main(rt: HostRuntime) -> io::Result<()> {
-    let mut table = model::room();
-    let mut list = model::room();
-    let a = trial::four_flows(&mut table, &mut list);
-    changing(rt, &table, &list, a)?;
-    reading(rt, &table, &list, a)
+    let scene = Scene::four_flows();
+    changing(rt, &scene)?;
+    reading(rt, &scene)
 }

@@ -4,13 +4,18 @@
 // all sets too. A selection is printed as a set in decimals, how many slots, and words; or as a no.
 #![tactic(auto)]
 
-use apart::Found;
-use rules::{Selected, Wheel, Words};
+ghost use Rattle.std.specs.Prelude.{◌≡◌, ◌≤◌};
+
+use apart::{Asked, Grant, Listed, No};
+use rules::{Refusal, Wheel, Words};
 use std::io;
+
+// What a selection answers, of the library and of the searches apart: a grant, or a refusal's number.
+type Answer = Result<Grant, u64>;
 
 // How many selections were made, how many of them differ from the search apart, and how many were
 // granted, refused by 13 and refused by 14.
-#[derive(Clone, Copy)]
+#[derive(Clone, Copy, Default)]
 struct Tally {
     tried: u64,
     differ: u64,
@@ -19,121 +24,65 @@ struct Tally {
     too_far: u64,
 }
 
-// Nothing tried yet.
-fn none() -> Tally {
-    Tally {
-        tried: 0,
-        differ: 0,
-        granted: 0,
-        too_much: 0,
-        too_far: 0,
+impl Tally {
+    // One selection more: what the library answers, and what the searches apart do; nothing where
+    // these differ from one another.
+    fn note(&mut self, answer: Answer, apart: Option<Answer>) {
+        self.tried = self.tried.wrapping_add(1);
+        if apart != Some(answer) {
+            self.differ = self.differ.wrapping_add(1);
+        }
+        match answer {
+            Ok(_) => self.granted = self.granted.wrapping_add(1),
+            Err(no) if no == No::TooMuch as u64 => self.too_much = self.too_much.wrapping_add(1),
+            Err(no) if no == No::TooFar as u64 => self.too_far = self.too_far.wrapping_add(1),
+            Err(_) => {}
+        }
     }
 }
 
-// The sum of two numbers, which are small.
-fn plus(a: u64, b: u64) -> u64 {
-    std::num::wrapping_add_u64(a, b)
-}
-
-// 1 if the two numbers are the same, else 0.
-fn one_if(a: u64, b: u64) -> u64 {
-    if a == b { 1 } else { 0 }
-}
-
-// 0 if the two answers are the same, else 1.
-fn one_if_not(a: Found, b: Found) -> u64 {
-    if a.no != b.no {
-        return 1;
-    }
-    if a.slots != b.slots {
-        return 1;
-    }
-    if a.count != b.count {
-        return 1;
-    }
-    if a.words != b.words {
-        return 1;
-    }
-    0
-}
-
-// One selection more, with what the search apart found.
-fn noted(t: Tally, a: Found, b: Found) -> Tally {
-    Tally {
-        tried: plus(t.tried, 1),
-        differ: plus(t.differ, one_if_not(a, b)),
-        granted: plus(t.granted, one_if(a.no, 0)),
-        too_much: plus(t.too_much, one_if(a.no, 13)),
-        too_far: plus(t.too_far, one_if(a.no, 14)),
-    }
-}
-
-// A number of words or of slots, in 64 bits.
-fn wide(v: u16) -> u64 {
-    v as u64
-}
-
-// A number of slots, in 64 bits.
-fn long(v: usize) -> u64 {
-    v as u64
-}
-
-// A refusal's number, in 64 bits.
-fn wide_byte(v: u8) -> u64 {
-    v as u64
-}
-
-// A number of words in the 16 bits that selection takes; 65535 where it does not fit.
-fn short(v: u64) -> u16 {
-    if v < 65536 { v as u16 } else { 65535 }
-}
-
-// What selection answers, in the form of the search apart.
-fn answer(r: Selected) -> Found {
-    match r {
-        Selected::Chosen(g) => Found {
-            no: 0,
-            slots: g.slots,
-            count: long(g.count),
-            words: wide(g.words.0),
-        },
-        Selected::Refused(no) => Found {
-            no: wide_byte(numbers::number(no)),
-            slots: 0,
-            count: 0,
-            words: 0,
-        },
+// What selection answers, in the form of the searches apart.
+fn plain_answer(answer: Result<rules::Grant, Refusal>) -> Answer {
+    match answer {
+        Ok(set) => Ok(Grant {
+            slots: set.slots,
+            count: set.count as u64,
+            words: u64::from(set.words.0),
+        }),
+        Err(no) => Err(u64::from(numbers::number(no))),
     }
 }
 
 // A wheel of plain numbers.
-fn wheel(n: usize, s: u16, h: u16, p: usize) -> Wheel {
+fn wheel(n: usize, s: u16, h: u16, p: usize) -> Wheel
+    ensures { result.n ≡ n }
+{
     Wheel {
-        n: n,
+        n,
         s: Words(s),
         h: Words(h),
-        p: p,
+        p,
     }
 }
 
 // Bare selection on a wheel.
-fn select(w: Wheel, free: u64, words: u16, limit: u16) -> Found {
-    answer(select::select(w, free, Words(words), limit))
+fn select(w: Wheel, free: u64, words: u16, limit: u16) -> Answer {
+    plain_answer(select::select(w, free, Words(words), limit))
 }
 
 // Prints a line with an answer.
-fn show(rt: HostRuntime, name: &str, f: Found) -> io::Result<()> {
-    if f.no != 0 {
-        return println!(rt; "{name}: refused {}", f.no);
+fn show(rt: HostRuntime, name: &str, answer: Answer) -> io::Result<()> {
+    match answer {
+        Ok(set) => println!(rt;
+            "{name}: set {} slots {} words {}",
+            set.slots, set.count, set.words
+        ),
+        Err(no) => println!(rt; "{name}: refused {no}"),
     }
-    println!(rt;
-        "{name}: set {} slots {} words {}",
-        f.slots, f.count, f.words
-    )
 }
 
 // Bare selection on the default wheel.
-fn usual(free: u64, words: u16, limit: u16) -> Found {
+fn usual(free: u64, words: u16, limit: u16) -> Answer {
     select(wheel(8, 3, 1, 3), free, words, limit)
 }
 
@@ -195,7 +144,6 @@ fn demand_last(rt: HostRuntime) -> io::Result<()> {
 
 // The largest value in each place in turn.
 fn largest_values(rt: HostRuntime) -> io::Result<()> {
-    let full = 18446744073709551615;
     show(rt, "N 65535", select(wheel(65535, 3, 1, 3), 255, 1, 8))?;
     show(rt, "S 65535", select(wheel(8, 65535, 1, 3), 255, 1, 8))?;
     show(rt, "H 65535", select(wheel(8, 3, 65535, 3), 255, 1, 8))?;
@@ -205,169 +153,67 @@ fn largest_values(rt: HostRuntime) -> io::Result<()> {
     show(
         rt,
         "N 64, W 65535",
-        select(wheel(64, 64, 0, 64), full, 65535, 65535),
+        select(wheel(64, 64, 0, 64), u64::MAX, 65535, 65535),
     )?;
     show(
         rt,
         "N 64, W 4096",
-        select(wheel(64, 64, 0, 64), full, 4096, 65535),
+        select(wheel(64, 64, 0, 64), u64::MAX, 4096, 65535),
     )
 }
 
-// The exact search apart, which fills tables from each start.
-fn exact(w: Wheel, free: u64, words: u16, limit: u16) -> Found {
-    let n = long(w.n);
-    let s = wide(w.s.0);
-    let h = wide(w.h.0);
-    exact::search(n, s, h, long(w.p), free, wide(words), wide(limit))
-}
-
-// What both searches apart found; no answer of the library's where they differ.
-fn agreed(a: Found, b: Found) -> Found {
-    if one_if_not(a, b) == 0 {
-        return a;
-    }
-    Found {
-        no: 99,
-        slots: 0,
-        count: 0,
-        words: 0,
+// The same wheel for the searches apart.
+fn plain(w: Wheel) -> apart::Wheel {
+    apart::Wheel {
+        n: w.n as u64,
+        s: u64::from(w.s.0),
+        h: u64::from(w.h.0),
+        p: w.p as u64,
     }
 }
 
-// Whether the exact search is run too: at every free set up to N 8, and above that at each eighth.
-fn both(n: usize, free: u64) -> bool {
-    n <= 8 || free % 8 == 7
-}
-
-// One selection beside the search apart through all sets, and the exact one.
-fn one(
-    t: Tally,
-    words_of: &[u64; 1024],
-    gap_of: &[u64; 1024],
-    rank_of: &[u64; 1024],
-    w: Wheel,
-    free: u64,
-    words: u16,
-    limit: u16,
-) -> Tally {
-    let a = select(w, free, words, limit);
-    let b = apart::search_listed(
-        words_of,
-        gap_of,
-        rank_of,
-        long(w.n),
-        wide(w.s.0),
-        wide(w.h.0),
-        long(w.p),
-        free,
-        wide(words),
-        wide(limit),
-    );
-    if !both(w.n, free) {
-        return noted(t, a, b);
+// What the search apart through all sets answers; nothing where the exact one, which is run too at
+// every free set up to N 8 and above that at each eighth, answers otherwise.
+fn searched(listed: &Listed, asked: Asked) -> Option<Answer> {
+    let found = listed.search(asked);
+    if (asked.wheel.n <= 8 || asked.free % 8 == 7) && found != exact::select(asked) {
+        return None;
     }
-    noted(t, a, agreed(b, exact(w, free, words, limit)))
+    Some(found.map_err(|no| no as u64))
 }
 
-// Every limit up to `last`, which is one above N.
-fn all_limits(
-    t: Tally,
-    words_of: &[u64; 1024],
-    gap_of: &[u64; 1024],
-    rank_of: &[u64; 1024],
-    w: Wheel,
-    free: u64,
-    words: u16,
-    last: u16,
-) -> Tally {
-    let mut sum = t;
-    let mut limit = 0;
-    while limit < last {
-        sum = one(sum, words_of, gap_of, rank_of, w, free, words, limit);
-        limit += 1;
+// Every selection on a wheel of at most ten slots: every set of free slots, every number of words up
+// to one more than the most that the free slots deliver, and every limit up to one above N.
+fn all_selections(tally: &mut Tally, w: Wheel)
+    requires { w.n ≤ 10 }
+{
+    let listed = plain(w).listed();
+    for free in 0..1 << w.n {
+        let most = listed.most_words(free).min(640) as u16;
+        for words in 0..=most + 1 {
+            for limit in 0..=w.n as u16 + 1 {
+                let found = searched(
+                    &listed,
+                    Asked {
+                        wheel: plain(w),
+                        free,
+                        words: u64::from(words),
+                        limit: u64::from(limit),
+                    },
+                );
+                tally.note(select(w, free, words, limit), found);
+            }
+        }
     }
-    one(sum, words_of, gap_of, rank_of, w, free, words, last)
-}
-
-// Every number of words up to one more than the most that the free slots deliver.
-fn all_words(
-    t: Tally,
-    words_of: &[u64; 1024],
-    gap_of: &[u64; 1024],
-    rank_of: &[u64; 1024],
-    w: Wheel,
-    free: u64,
-    last: u16,
-) -> Tally {
-    let most = short(apart::most_words(words_of, free));
-    let mut sum = t;
-    let mut words = 0;
-    while words < most {
-        sum = all_limits(sum, words_of, gap_of, rank_of, w, free, words, last);
-        words += 1;
-    }
-    let a = all_limits(sum, words_of, gap_of, rank_of, w, free, most, last);
-    all_limits(a, words_of, gap_of, rank_of, w, free, next(most), last)
-}
-
-// Every set of free slots below `end`, which is 2 to the N.
-fn all_free(
-    t: Tally,
-    words_of: &[u64; 1024],
-    gap_of: &[u64; 1024],
-    rank_of: &[u64; 1024],
-    w: Wheel,
-    end: u64,
-    last: u16,
-) -> Tally {
-    let mut sum = t;
-    let mut free = 0;
-    while free < end {
-        sum = all_words(sum, words_of, gap_of, rank_of, w, free, last);
-        free += 1;
-    }
-    sum
-}
-
-// How many sets a wheel of at most ten slots has; none are said of a larger one.
-fn sets(n: u64) -> u64 {
-    if 10 < n {
-        return 0;
-    }
-    1 << n
-}
-
-// One more.
-fn next(v: u16) -> u16 {
-    std::num::wrapping_add_u16(v, 1)
-}
-
-// Every selection on a wheel of at most ten slots.
-fn all_selections(t: Tally, w: Wheel) -> Tally {
-    let n = long(w.n);
-    let s = wide(w.s.0);
-    let h = wide(w.h.0);
-    let p = long(w.p);
-    let mut words_of = [0u64; 1024];
-    let mut gap_of = [0u64; 1024];
-    let mut rank_of = [0u64; 1024];
-    apart::list_words(&mut words_of, n, s, h, p);
-    apart::list_gaps(&mut gap_of, n);
-    apart::list_ranks(&mut rank_of, n, s, h, p);
-    let last = next(short(n));
-    all_free(t, &words_of, &gap_of, &rank_of, w, sets(n), last)
 }
 
 // Every selection on the wheels of 1 to 10 slots with these values.
 fn all_wheels(s: u16, h: u16, p: usize) -> Tally {
-    let mut sum = none();
-    let mut n = 1;
-    while n <= 10 {
-        sum = all_selections(sum, wheel(n, s, h, p));
-        n += 1;
+    let mut tally = Tally::default();
+    for n in 1..=10 {
+        all_selections(&mut tally, wheel(n, s, h, p));
     }
-    sum
+    tally
 }
 
 // Prints what was counted on the wheels with these values.

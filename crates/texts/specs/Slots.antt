@@ -1,17 +1,12 @@
 -- The slots of a set, printed one by one in rising order.
-use Rattle.std.specs.Prelude.{◌≡◌, Bool}
-use Rattle.std.proofs.Math.Path.{sym, ap}
-use Rattle.std.proofs.Common.{◌∙◌, add-zero, zero-add, add-suc, add-one}
-use Rattle.std.proofs.Math.Bool.{true, false, cond}
-use mathlib.Core.List.{List, [], ◌∷◌, ◌++◌, append-nil}
-use Prim.Native.Nat.{ℕ, zero, suc, ◌+◌, ◌≤◌, ◌<◌}
-use native.Mathlib.Omega.{arith}
+use Rattle.std.specs.Prelude.{◌≡◌, Bool, true, false, cond, List, [], ◌∷◌, ◌++◌, ℕ, zero, suc, ◌+◌, ◌≤◌, ◌<◌, length}
+use Rattle.std.proofs.Common.{sym, ap, ◌∙◌, arith, append-nil, add-zero, zero-add, add-suc, add-one, length-append}
 use Rattle.std.proofs.Math.Nat.{suc-add}
-use Rattle.std.proofs.Math.ListN.{length, length-append}
 use Rattle.rules.specs.Sets.{places}
 use Rattle.grammar.specs.Text.{field, fields}
 use Rattle.grammar.specs.Spelling.{fields_append}
-use Rattle.texts.specs.Puts.{Puts, puts_then, puts_length}
+use Rattle.texts.specs.declared.Page.{Page}
+use Rattle.texts.specs.Puts.{Room, Puts, puts_then, puts_length}
 
 -- the places up to m, and m
 module _ (f : ℕ → Bool) where
@@ -52,17 +47,16 @@ module _ (f : ℕ → Bool) where
   slot_room s e h =
       omega (arith, places_longer 0 (s + 1) 64 (omega arith), ap length (next_yes s e), length-append (fields (places f 0 s)) (field s))
 
-  pub slot_yes : {old mid new : List ℕ} {at p q : ℕ} (s : ℕ) → Puts old at (fields (places f 0 s)) mid p → f s ≡ true → s < 64
-      → at + length (fields (places f 0 64)) ≤ length old → Puts mid p (field s) new q → Puts old at (fields (places f 0 (s + 1))) new q
+  pub slot_yes : {old mid new : Page} (s : ℕ) → Puts old (fields (places f 0 s)) mid → f s ≡ true → s < 64
+      → Room old (fields (places f 0 64)) → Puts mid (field s) new → Puts old (fields (places f 0 (s + 1))) new
   slot_yes s r e h room put =
       rw (next_yes s e)
       (puts_then (fields (places f 0 s)) (field s) r put (omega (arith, slot_room s e h, length-append (fields (places f 0 s)) (field s))))
 
-  pub slot_no : {old mid : List ℕ} {at p : ℕ} (s : ℕ) → Puts old at (fields (places f 0 s)) mid p → f s ≡ false
-      → Puts old at (fields (places f 0 (s + 1))) mid p
+  pub slot_no : {old mid : Page} (s : ℕ) → Puts old (fields (places f 0 s)) mid → f s ≡ false → Puts old (fields (places f 0 (s + 1))) mid
   slot_no s r e = rw (next_no s e) r
 
   -- the buffer keeps its length while there is room for all
-  pub slots_length : {old mid : List ℕ} {at p : ℕ} (s : ℕ) → s ≤ 64 → at + length (fields (places f 0 64)) ≤ length old
-      → Puts old at (fields (places f 0 s)) mid p → length mid ≡ length old
+  pub slots_length : {old mid : Page} (s : ℕ) → s ≤ 64 → Room old (fields (places f 0 64)) → Puts old (fields (places f 0 s)) mid
+      → length mid.out.now ≡ length old.out.now
   slots_length s h room r = puts_length (fields (places f 0 s)) r (omega (arith, places_longer 0 s 64 h))

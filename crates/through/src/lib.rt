@@ -3,149 +3,160 @@
 // model's form.
 #![tactic(auto)]
 
-use model::{Asked, Call, Reply};
+use apart::{Grant, No};
+use model::{Asked, Call, Part, Reply, Yes};
 
 // What an answer's array holds before a call, so that a no which writes there is seen.
 const BEFORE: u64 = 7;
 
-// A number to count with.
-fn count(v: u64) -> usize {
-    v as usize
-}
+// An answer that no call may give: a number that is no refusal's, or a no that wrote into the lent
+// array.
+#[derive(Clone, Copy, PartialEq, Eq)]
+pub struct Malformed;
 
-// A value of a yes; of a no 0 if the array is as before, and 1 if it was written.
-fn value(no: u64, v: u64) -> u64 {
-    if no == 0 {
-        return v;
+// The answer that a number stands for: 0 is the yes, and any other a no, which leaves the lent array
+// as it was.
+fn told<Y: Copy>(number: u64, yes: Y, stayed: bool) -> Result<Result<Y, No>, Malformed> {
+    if number == 0 {
+        return Ok(Ok(yes));
     }
-    if v == BEFORE {
-        return 0;
+    match No::of_number(number) {
+        Some(no) if stayed => Ok(Err(no)),
+        _ => Err(Malformed),
     }
-    1
-}
-
-// The answer with one value.
-fn told_one(no: u64, v: [u64; 1]) -> Reply {
-    model::answered(no, value(no, v[0]), 0, 0)
-}
-
-// The answer with two values.
-fn told_two(no: u64, v: [u64; 2]) -> Reply {
-    model::answered(no, value(no, v[0]), value(no, v[1]), 0)
-}
-
-// The answer with three values.
-fn told_three(no: u64, v: [u64; 3]) -> Reply {
-    model::answered(no, value(no, v[0]), value(no, v[1]), value(no, v[2]))
 }
 
 // Opens the flow.
-fn open(table: &mut [u8], list: &mut [u8], a: Asked) -> Reply {
-    let path = a.path;
-    let mut v = [BEFORE; 3];
-    let no = face::jellyspire_raw_open(
+fn open(table: &mut [u8], list: &mut [u8], asked: &Asked) -> Result<Reply, Malformed> {
+    let wheel = asked.wheel;
+    let channels = asked.path.channels;
+    let mut values = [BEFORE; 3];
+    let number = face::jellyspire_raw_open(
         table,
         list,
-        count(a.n),
-        count(a.s),
-        count(a.h),
-        count(a.p),
-        count(a.flow),
-        &path,
-        count(a.len),
-        count(a.words),
-        count(a.deadline),
-        &mut v,
+        wheel.n as usize,
+        wheel.s as usize,
+        wheel.h as usize,
+        wheel.p as usize,
+        asked.flow as usize,
+        &channels,
+        asked.path.len as usize,
+        asked.demand.words as usize,
+        asked.demand.deadline as usize,
+        &mut values,
     );
-    told_three(no, v)
+    told(number, Yes::Granted(grant(values)), values == [BEFORE; 3])
 }
 
-// Closes the flow.
-fn close(table: &mut [u8], list: &mut [u8], a: Asked) -> Reply {
-    let flow = count(a.flow);
-    let mut v = [BEFORE; 1];
-    let no = face::jellyspire_raw_close(
-        table,
-        list,
-        count(a.n),
-        count(a.s),
-        count(a.h),
-        count(a.p),
-        flow,
-        &mut v,
-    );
-    told_one(no, v)
-}
-
-// Reports free and held cells.
-fn report(table: &[u8], list: &[u8], a: Asked) -> Reply {
-    let mut v = [BEFORE; 2];
-    let no = face::jellyspire_raw_report(
-        table,
-        list,
-        count(a.n),
-        count(a.s),
-        count(a.h),
-        count(a.p),
-        &mut v,
-    );
-    told_two(no, v)
-}
-
-// Whether table and list agree.
-fn agree(table: &[u8], list: &[u8], a: Asked) -> Reply {
-    model::refused(face::jellyspire_raw_agree(
-        table,
-        list,
-        count(a.n),
-        count(a.s),
-        count(a.h),
-        count(a.p),
-    ))
-}
-
-// A call on table and list, of which it is lent so many bytes as are asked for.
-pub fn answer(call: Call, table: &mut [u8], list: &mut [u8], a: Asked) -> Reply {
-    let t = model::least(a.table, table.len());
-    let l = model::least(a.list, list.len());
-    let part = &mut table[0..t];
-    let records = &mut list[0..l];
-    match call {
-        Call::Open => open(part, records, a),
-        Call::Close => close(part, records, a),
-        Call::Report => report(part, records, a),
-        Call::Agree => agree(part, records, a),
+// The grant that an array tells.
+fn grant(values: [u64; 3]) -> Grant {
+    let [slots, count, words] = values;
+    Grant {
+        slots,
+        count,
+        words,
     }
 }
 
-// Where the row of a channel stands, and how many cells it has; 1 if there is none.
-pub fn row(table: &[u8], a: Asked, channel: u64) -> Reply {
-    let t = model::least(a.table, table.len());
-    let mut v = [BEFORE; 2];
-    let no = face::jellyspire_raw_row(
-        &table[0..t],
-        count(a.n),
-        count(a.s),
-        count(a.h),
-        count(a.p),
-        count(channel),
-        &mut v,
+// Closes the flow.
+fn close(table: &mut [u8], list: &mut [u8], asked: &Asked) -> Result<Reply, Malformed> {
+    let wheel = asked.wheel;
+    let mut values = [BEFORE; 1];
+    let number = face::jellyspire_raw_close(
+        table,
+        list,
+        wheel.n as usize,
+        wheel.s as usize,
+        wheel.h as usize,
+        wheel.p as usize,
+        asked.flow as usize,
+        &mut values,
     );
-    told_two(no, v)
+    told(number, Yes::Cleared(values[0]), values == [BEFORE; 1])
+}
+
+// Reports free and held cells.
+fn report(table: &[u8], list: &[u8], asked: &Asked) -> Result<Reply, Malformed> {
+    let wheel = asked.wheel;
+    let mut values = [BEFORE; 2];
+    let number = face::jellyspire_raw_report(
+        table,
+        list,
+        wheel.n as usize,
+        wheel.s as usize,
+        wheel.h as usize,
+        wheel.p as usize,
+        &mut values,
+    );
+    let [free, held] = values;
+    told(number, Yes::Counted { free, held }, values == [BEFORE; 2])
+}
+
+// Whether table and list agree.
+fn agree(table: &[u8], list: &[u8], asked: &Asked) -> Result<Reply, Malformed> {
+    let wheel = asked.wheel;
+    let number = face::jellyspire_raw_agree(
+        table,
+        list,
+        wheel.n as usize,
+        wheel.s as usize,
+        wheel.h as usize,
+        wheel.p as usize,
+    );
+    told(number, Yes::Agreed, true)
+}
+
+// A call on table and list, of which it is lent so many bytes as are asked for.
+pub fn answer(
+    call: Call,
+    table: &mut [u8],
+    list: &mut [u8],
+    asked: &Asked,
+) -> Result<Reply, Malformed> {
+    let table = model::lent_part(table, asked.table);
+    let list = model::lent_part(list, asked.list);
+    match call {
+        Call::Open => open(table, list, asked),
+        Call::Close => close(table, list, asked),
+        Call::Report => report(table, list, asked),
+        Call::Agree => agree(table, list, asked),
+    }
+}
+
+// The row of a channel, in a table of so many bytes as are asked for; none is told by 1.
+pub fn row(table: &[u8], asked: &Asked, channel: u64) -> Result<Option<Part>, Malformed> {
+    let wheel = asked.wheel;
+    let mut values = [BEFORE; 2];
+    let number = face::jellyspire_raw_row(
+        &table[..asked.table.min(table.len())],
+        wheel.n as usize,
+        wheel.s as usize,
+        wheel.h as usize,
+        wheel.p as usize,
+        channel as usize,
+        &mut values,
+    );
+    let [at, cells] = values;
+    match number {
+        0 => Ok(Some(Part { at, cells })),
+        1 if values == [BEFORE; 2] => Ok(None),
+        _ => Err(Malformed),
+    }
 }
 
 // Bare selection.
-pub fn select(a: Asked, free: u64, limit: u64) -> Reply {
-    let mut v = [BEFORE; 3];
-    let no = face::jellyspire_raw_select(
-        count(a.n),
-        count(a.s),
-        count(a.h),
-        count(a.p),
-        free,
-        count(a.words),
-        count(limit),
-        &mut v,
+pub fn select(asked: apart::Asked) -> Result<Result<Grant, No>, Malformed> {
+    let wheel = asked.wheel;
+    let mut values = [BEFORE; 3];
+    let number = face::jellyspire_raw_select(
+        wheel.n as usize,
+        wheel.s as usize,
+        wheel.h as usize,
+        wheel.p as usize,
+        asked.free,
+        asked.words as usize,
+        asked.limit as usize,
+        &mut values,
     );
-    told_three(no, v)
+    told(number, grant(values), values == [BEFORE; 3])
 }

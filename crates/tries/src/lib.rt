@@ -2,63 +2,53 @@
 // better than the starts before it.
 #![tactic(auto)]
 
-ghost use Rattle.std.specs.Prelude.{◌≡◌, true, false, ◌⊎◌, ◌+◌, ◌<◌, ◌≤◌, length};
-ghost use Rattle.line.specs.Tables.{Sound};
-ghost use Rattle.optimum.specs.Search.{Sofar, Short};
+ghost use Rattle.std.specs.Prelude.{◌≡◌, Some, ◌+◌};
+ghost use Rattle.rules.specs.Tells.{Tells};
+ghost use Rattle.optimum.specs.Search.{Sofar, Short, Improves, cap_of};
 
-use line::Task;
+use line::{Cut, Tables, Task};
 use optimum::Found;
-use rules::PathSlot;
+
+// How many slots a choice may have that does better than `best`.
+fn cap(task: Task, best: Option<Found>) -> usize
+    ensures { result ≡ cap_of task best }
+{
+    match best {
+        Some(found) => found.count,
+        None => task.wheel.n - 1,
+    }
+}
 
 // Whether k slots of the value v do better than `best`.
-fn improves(k: usize, v: u16, best: Found) -> bool
-    requires { k ≤ best.count }
-    ensures { (result ≡ true → (k < best.count) ⊎ ((k ≡ best.count) × (best.value < v))) × (result ≡ false → (k ≡ best.count) × (v ≤ best.value)) }
+fn improves(k: usize, v: u16, best: Option<Found>) -> bool
+    ensures { Tells result (Improves best k v) }
 {
-    if k < best.count {
-        return true;
+    match best {
+        Some(found) => k < found.count || found.value < v,
+        None => true,
     }
-    if best.value < v {
-        return true;
-    }
-    false
 }
 
 // The best of the starts so far with one more start taken into account.
-pub fn try_start(
-    heads: &mut [u16],
-    tails: &mut [u16],
-    task: Task,
-    start: PathSlot,
-    least: usize,
-    best: Found,
-) -> Found
-    requires sound { Sound task }
-    requires in_bounds { (start.0 < task.wheel.n) × (length heads.old ≡ 4096) × (length tails.old ≡ 4096) }
-    requires short { Short task task.wheel.p least × Sofar task start.0 best }
-    ensures { Sofar task (start.0 + 1) result }
+pub fn try_start(tables: &mut Tables, cut: Cut, least: usize, best: Option<Found>) -> Option<Found>
+    requires { Short cut.task cut.task.wheel.p least × Sofar cut.task cut.start.0 best }
+    ensures { Sofar cut.task (cut.start.0 + 1) result }
 {
-    let f = positions::free_run(task, start, 0);
-    if f == 0 {
+    let f = positions::free_run(cut, 0);
+    if f == 0 || bound::hopeless(cut.task, f, least, best) {
         return best;
     }
-    if bound::hopeless(task, f, least, best) {
+    let Some(k) = weigh::weigh(tables, cut, least, cap(cut.task, best)) else {
+        return best;
+    };
+    let value = tables.heads[k];
+    if !improves(k, value, best) {
         return best;
     }
-    let cap = positions::smaller(best.count, task.wheel.n - 1);
-    let k = weigh::weigh(heads, tails, task, start, least, cap);
-    if cap < k {
-        return best;
-    }
-    let v = heads[k];
-    if !improves(k, v, best) {
-        return best;
-    }
-    let slots = rebuild::rebuild(heads, tails, task, start, k);
-    Found {
+    Some(Found {
         count: k,
-        value: v,
-        start: start,
-        slots: slots,
-    }
+        value,
+        start: cut.start,
+        slots: rebuild::rebuild(tables, cut, k),
+    })
 }

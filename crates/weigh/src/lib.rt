@@ -1,26 +1,22 @@
 // What the line at one start is worth: its tables, filled as far as they are needed.
 #![tactic(auto)]
 
-ghost use Rattle.std.specs.Prelude.{◌≡◌, ℕ, ◌+◌, ◌<◌, ◌≤◌, length, get_or};
-ghost use Rattle.line.specs.Tables.{Sound};
-ghost use Rattle.optimum.specs.Search.{Weighed};
+ghost use Rattle.std.specs.Prelude.{◌<◌, ◌≤◌};
+ghost use Rattle.optimum.specs.Search.{FirstOver, Weighed};
 
-use line::Task;
-use rules::PathSlot;
+use line::{Cut, Tables};
 
-// The fewest slots, up to `cap`, that are worth more than `words`; cap + 1 where there are none.
-fn first_over(heads: &[u16], cap: usize, words: u16) -> usize
-    requires { (cap < 64) × (length heads.now ≡ 4096) }
-    ensures { (result ≤ cap + 1) × ((j : ℕ) → j < result → get_or heads.now j 0 ≤ words) × (result ≤ cap → words < get_or heads.now result 0) }
+// The fewest slots, up to `cap`, that are worth more than `words`.
+fn first_over(heads: &[u16; 4096], cap: usize, words: u16) -> Option<usize>
+    requires { cap < 64 }
+    ensures { FirstOver heads.now cap words result }
 {
-    let mut k = 0;
-    while k <= cap {
+    for k in 0..cap + 1 {
         if words < heads[k] {
-            return k;
+            return Some(k);
         }
-        k += 1;
     }
-    k
+    None
 }
 
 // Where to cap the tables of a wheel of n slots at first. While nothing is found, the fewest slots
@@ -30,41 +26,26 @@ fn first_cap(n: usize, least: usize, cap: usize) -> usize
     ensures { result ≤ cap }
 {
     if cap + 1 < n {
-        return cap;
+        cap
+    } else {
+        cap.min(least.saturating_add(2))
     }
-    if cap < 2 {
-        return cap;
-    }
-    if cap - 2 < least {
-        return cap;
-    }
-    least + 2
 }
 
-// Fills the tables at `start` as far as they are needed, and says the fewest slots, up to `cap`,
-// that are worth more than the words asked for; cap + 1 where there are none.
-#[tactic(auto, using(optimum::specs::Search::weighed))]
-pub fn weigh(
-    heads: &mut [u16],
-    tails: &mut [u16],
-    task: Task,
-    start: PathSlot,
-    least: usize,
-    cap: usize,
-) -> usize
-    requires sound { Sound task }
-    requires in_bounds { (start.0 < task.wheel.n) × (cap < 64) × (length heads.old ≡ 4096) × (length tails.old ≡ 4096) }
-    ensures { Weighed task start.0 cap heads.new tails.new result }
+// Fills the tables at the cut as far as they are needed, and says the fewest slots, up to `cap`,
+// that are worth more than the words asked for.
+#[tactic(auto, using(optimum::specs::Search::weighed_all))]
+pub fn weigh(tables: &mut Tables, cut: Cut, least: usize, cap: usize) -> Option<usize>
+    requires { cap < 64 }
+    ensures { Weighed cut.task cut.start.0 cap tables.new.heads tables.new.tails result }
 {
-    let near = first_cap(task.wheel.n, least, cap);
-    yields::fill(heads, tails, task, start, near);
-    let k = first_over(heads, near, task.words.0);
-    if k <= near {
-        return k;
+    let words = cut.task.words.0;
+    let near = first_cap(cut.task.wheel.n, least, cap);
+    yields::fill(tables, cut, near);
+    let first = first_over(&tables.heads, near, words);
+    if near == cap || first.is_some() {
+        return first;
     }
-    if near == cap {
-        return k;
-    }
-    yields::fill(heads, tails, task, start, cap);
-    first_over(heads, cap, task.words.0)
+    yields::fill(tables, cut, cap);
+    first_over(&tables.heads, cap, words)
 }

@@ -1,29 +1,14 @@
 -- Fewer slots do not deliver the words, and as many are worth no more.
-use mathlib.Core.Path.{refl}
-use native.Mathlib.Omega.{arith}
-use borrow.Author.Tests.{ltb-true}
-use Rattle.laws.specs.Logic.{not_both}
-use Rattle.optimum.specs.Search.{short_fewer}
+use Rattle.std.proofs.Common.{not, ap, ◌∙◌, ltb-true, arith}
+use Rattle.optimum.specs.Search.{fewest_none, hopeless_none, hopeless_some}
 use Rattle.bound.proofs.hopeless.Goals as goal
 
-pub fewest-requires : goal.fewest-requires
-fewest-requires c = record { sound = c.requires.sound; end_le_n = c.requires.count_le_n }
+pub returns-then-is_none : goal.returns-then-is_none
+returns-then-is_none c = λ e.
+    let worth = c.most_words in
+    hopeless_some _ _ _ c.in-Some.found c.in-Some.is (fewest_none _ _ _ _ (c.is_none.ensures ∙ ap not c.if-is_none.true) c.fewest.ensures)
+    (λ v z. omega (arith, worth.ensures v z, ltb-true _ _ e))
 
-pub returns-then-fewest-count : goal.returns-then-fewest-count
-returns-then-fewest-count c = λ e. absurd (not_both e refl)
-
-pub returns-then-task-count : goal.returns-then-task-count
-returns-then-task-count c = λ _. record { short = short_fewer _ _ _ _ (omega arith) c.fewest.ensures; top = λ h. absurd (omega arith) }
-
-pub most_words-requires : goal.most_words-requires
-most_words-requires c = record { sound = c.requires.sound; k_le_n = c.requires.count_le_n.0 }
-
-pub returns : goal.returns
-returns c =
-    let most = c.most_words in
-    let best = c.args.best in
-    λ e.
-    record {
-      short = short_fewer _ _ _ _ (omega arith) c.fewest.ensures;
-      top = λ h v z. omega (arith, most.ensures v z, ltb-true most.result best.value e);
-    }
+pub returns-in-None : goal.returns-in-None
+returns-in-None c = λ e.
+    hopeless_none _ _ _ c.in-None.is (fewest_none _ _ _ _ (c.is_none-in-None.ensures ∙ ap not e) c.fewest-in-None.ensures)

@@ -1,8 +1,7 @@
--- Four numbers, the lowest first.
-use Rattle.bytes_list.specs.Layout.{slots_from}
-use borrow.Author.Rules.{rules}
+-- Eight bytes are four numbers.
+use Rattle.std.proofs.Common.{◌∙◌}
+use Rattle.bytes_list.specs.Reading.{slots_bytes}
 use Rattle.bytes_list.proofs.slots_at.Goals as goal
 
 pub returns : goal.returns
-unfolding slots_from
-returns c = search rules
+returns c = c.from_le_bytes.ensures ∙ slots_bytes _ _ (rw c.unwrap.ensures at c.first_chunk.ensures.cases).same

@@ -1,4 +1,6 @@
 -- The library's answer, which the numbers as given have too.
+use Rattle.std.proofs.Common.{subst}
+use Rattle.face.specs.Told.{Told}
 use Rattle.face.specs.Wide.{report_given}
 use Rattle.face.proofs.jellyspire_raw_report.Goals as goal
 
@@ -6,7 +8,7 @@ pub returns : goal.returns
 returns c =
     let a = c.args in
     record {
-      answer = c.report.result;
-      promised = report_given _ _ _ _ _ c.wheel_of-w.ensures a.table.now a.list.now c.report.result c.report.ensures;
-      told = c.tell_reported.ensures;
+      answer = c.report-a.result;
+      promised = report_given _ _ _ _ _ c.wheel_of-w.ensures a.table.now a.list.now c.report-a.result c.report-a.ensures;
+      told = subst (λ x. Told x c.tell.result c.args.values.now c.tell.new.values) c.counted.ensures c.tell.ensures;
     }

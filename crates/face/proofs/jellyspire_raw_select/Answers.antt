@@ -1,13 +1,15 @@
 -- The library's answer, which the numbers as given have too.
+use Rattle.std.proofs.Common.{subst}
+use Rattle.face.specs.Told.{Told}
 use Rattle.face.specs.Wide.{select_given}
 use Rattle.face.proofs.jellyspire_raw_select.Goals as goal
 
 pub returns : goal.returns
 returns c =
     record {
-      answer = c.select.result;
+      answer = c.select-a.result;
       promised =
           select_given _ _ _ _ _ c.wheel_of-w.ensures _ _ _ _ _ c.short.ensures c.short-most.ensures _
-          c.select.ensures;
-      told = c.tell_selected.ensures;
+          c.select-a.ensures;
+      told = subst (λ x. Told x c.tell.result c.args.values.now c.tell.new.values) c.granted.ensures c.tell.ensures;
     }

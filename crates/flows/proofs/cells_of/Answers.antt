@@ -1,20 +1,12 @@
 -- A record that claims nothing holds nothing; another has at most 64 slots on at most 16 channels.
-use mathlib.Core.Path.{sym, ap, ◌∙◌}
-use mathlib.Core.Bool.{cond}
-use Prim.Native.Nat.{◌*◌, ◌≤◌}
-use native.Mathlib.Omega.{arith}
-use native.Mathlib.Nat.{mul-le-mul}
-use borrow.Author.Tests.{not-true, not-false}
-use Rattle.rules.specs.Wheels.{size}
+use Rattle.std.proofs.Common.{ap, ◌*◌, ◌≤◌, arith, mul-le-mul}
 use Rattle.rules.specs.Flows.{cells_of}
 use Rattle.laws.specs.Bounds.{size_most}
 use Rattle.flows.proofs.cells_of.Goals as goal
 
 pub returns-then-not-claims_cells : goal.returns-then-not-claims_cells
 unfolding cells_of
-returns-then-not-claims_cells c =
-    let a = c.args in
-    sym (ap (λ b. cond b (size a.w.n a.r.slots * a.r.len) 0) (sym c.claims_cells.ensures ∙ not-true _ c.if-not-claims_cells.true-raw))
+returns-then-not-claims_cells c = rw (← c.claims_cells.ensures, c.if-not-claims_cells.true)
 
 pub overflow_mul-result : goal.overflow_mul-result
 overflow_mul-result c =
@@ -25,7 +17,4 @@ overflow_mul-result c =
 pub returns : goal.returns
 unfolding cells_of
 returns c =
-    let a = c.args in
-    ap (λ n. n * a.r.len) (c.size.ensures.good c.requires.legal)
-    ∙ sym (ap (λ b. cond b (size a.w.n a.r.slots * a.r.len) 0)
-    (sym c.claims_cells.ensures ∙ not-false _ c.if-not-claims_cells.false-raw))
+    rw (← c.claims_cells.ensures, c.if-not-claims_cells.false) (ap (λ n. n * c.args.r.path.len) (c.size.ensures.good c.requires.legal))

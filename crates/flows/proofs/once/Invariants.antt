@@ -1,10 +1,7 @@
 -- The loop has seen that no entry before k stands twice.
-use Prim.Native.Nat.{ℕ, ◌-◌, ◌≤◌, ◌<◌}
+use Rattle.std.proofs.Common.{ℕ, ◌<◌}
 use Rattle.flows.specs.Tests.{Fresh}
 use Rattle.flows.proofs.once.Given as goal
 
 abbrev pub invariant-loop-k : goal.invariant-loop-k
-invariant-loop-k l = (l.k ≤ l.len) × ((p : ℕ) → p < l.k → Fresh l.path p)
-
-abbrev pub decreases-loop-k : goal.decreases-loop-k
-decreases-loop-k l = l.len - l.k
+invariant-loop-k l = (p : ℕ) → p < l.k → Fresh l.path.entries p

@@ -1,41 +1,39 @@
 -- The row has what the packets of fewer than q slots come to.
-use mathlib.Core.Path.{◌≡◌, ◌∙◌}
-use Prim.Native.Nat.{◌-◌}
-use native.Mathlib.Omega.{arith}
-use Rattle.line.specs.Rows.{filled_then, packets_none, packets_more, words_room}
+use Rattle.std.proofs.Common.{◌≡◌, ◌+◌, ◌-◌, min, refl, sym, ap, ◌∙◌, rules, arith, length, get_or}
+use Rattle.std.proofs.lemmas.List.{places}
+use Rattle.line.specs.Tables.{entry, pack_most, pack_none}
+use Rattle.line.specs.Rows.{part_entry, filled_part, raised_is, packets_more}
 use Rattle.heads.proofs.packets.Goals as goal
 
 pub loop-q-init : goal.loop-q-init
-loop-q-init c = (omega arith, omega arith, omega arith, packets_none _ _ _ _ _ _ c.clear.ensures)
-
-pub packet_words-words-requires : goal.packet_words-words-requires
-packet_words-words-requires c = record { sound = c.requires.sound; le_q = omega arith }
-
-pub raise-requires : goal.raise-requires
-raise-requires c =
-    let q = c.loop-q.q in
-    let words = c.packet_words-words.ensures in
+loop-q-init c =
+    let a = c.args in
+    let long : length c.fill.new.self ≡ a.cap + 1 = search (rules, places, c.fill.ensures.len) in
     record {
-      m_in_bounds = omega arith;
-      by_index =
-          λ i l.
-          let value = c.requires.by_index q i (omega arith) (omega arith) (omega arith) in
-          omega (arith, words_room c.args.task q _ c.requires.sound (omega arith) value);
+      long = long;
+      best = λ k h. c.fill.ensures.clones k 0 (omega (arith, long, c.fill.ensures.len)) refl ∙ sym (pack_none a.task a.tails.now a.p k);
     }
 
 pub loop-q-preserved : goal.loop-q-preserved
 loop-q-preserved c =
+    let a = c.args in
     let at = c.loop-q in
-    let words = c.packet_words-words.ensures in
-    let raise = c.raise in (
-      omega arith,
-      omega arith,
-      raise.auto.heads ∙ at.invariant.2,
-      packets_more _ _ _ _ _ _ _ _ _ at.invariant.0 (omega arith) words at.invariant.3 raise.ensures,
-    )
+    let words = c.packet_words-words in
+    let long : length c.raise.new.row ≡ a.cap + 1 - at.q = search (rules, places, c.raise.auto.row, at.invariant.long) in
+    let filled =
+    filled_part at.row c.raise.new.row at.q (a.cap + 1 - at.q) (length at.row - at.q) _ (omega (arith, at.invariant.long))
+    (omega (arith, at.invariant.long)) long
+    (raised_is _ _ _ _ _ (λ i. get_or at.row (at.q + i) 0) (entry a.tails.now (a.p + at.q - 1)) long c.raise.ensures
+    (λ k h. part_entry _ _ _ k (omega (arith, at.invariant.long))) (λ k h. part_entry _ _ _ k (omega arith))) in
+    record {
+      long = filled.long ∙ at.invariant.long;
+      best = packets_more a.task a.cap a.p at.q words.result a.tails.now at.row _ (omega arith) (omega arith) words.ensures at.invariant.best filled;
+    }
 
 pub returns : goal.returns
 returns c =
+    let a = c.args in
     let at = c.loop-q in
-    let all : at.q - 1 ≡ c.args.m = omega arith in
-    rw all at (filled_then _ _ _ _ _ _ _ c.clear.ensures at.invariant.3)
+    let all : at.q - 1 ≡ a.m = omega arith in
+    filled_part _ _ _ _ _ _ (omega arith) (omega arith) at.invariant.long
+    (λ k h. at.invariant.best k h ∙ ap (λ m. pack_most a.task a.tails.now a.p k 1 (min m k)) all)

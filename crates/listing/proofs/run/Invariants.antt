@@ -1,16 +1,11 @@
--- Each turn answers one line; the measure is what is left of the input.
-use mathlib.Core.Path.{◌≡◌}
-use Prim.Native.Nat.{◌-◌}
-use lib.ListN.{length}
+-- Each turn answers one line.
+use Rattle.std.proofs.Common.{length}
 use Rattle.answering.specs.Lines.{state}
 use Rattle.listing.specs.Runs.{Going}
 use Rattle.listing.proofs.run.Given as goal
 
-abbrev pub invariant-loop-from : goal.invariant-loop-from
-invariant-loop-from l =
-    Going l.input (state l.initial.table l.initial.list) l.initial.out (state l.table l.list) l.from l.k l.out l.place
-    × (length l.table ≡ length l.initial.table)
-    × (length l.list ≡ length l.initial.list)
+abbrev pub invariant-loop-line : goal.invariant-loop-line
+invariant-loop-line l = Going l.input (state l.initial.board) l.initial.page (state l.board) l.rest l.k l.page
 
-abbrev pub decreases-loop-from : goal.decreases-loop-from
-decreases-loop-from l = length l.input - l.from
+abbrev pub decreases-loop-line : goal.decreases-loop-line
+decreases-loop-line l = length l.rest

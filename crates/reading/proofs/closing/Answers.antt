@@ -1,22 +1,16 @@
--- One field: the flow. Anything else: bad.
-use borrow.Author.Tests.{not-true, not-false}
-use Rattle.reading.specs.Meaning.{says_nothing}
-use Rattle.decimals.specs.Columns.{was_split, was_not_split}
-use Rattle.reading.specs.Orders.{means_close, closes_not, closes_nothing}
+-- One field: the flow. Anything else: no command.
+use Rattle.std.proofs.Common.{arith}
+use Rattle.reading.specs.Orders.{closes, closes_not, closes_nothing}
 use Rattle.reading.proofs.closing.Goals as goal
 
-pub returns-then-not-f : goal.returns-then-not-f
-returns-then-not-f c =
-    says_nothing
-    (closes_nothing _ c.requires (was_not_split _ _ _ c.fields_at-f.ensures (not-true _ c.if-not-f.true)))
-    c.bad.ensures
+pub returns-in_err-fields : goal.returns-in_err-fields
+returns-in_err-fields c = rw c.from_residual.ensures (closes_nothing _ c.in_err-fields.ensures)
 
-pub returns-then-f-ne1 : goal.returns-then-f-ne1
-returns-then-f-ne1 c =
-    let split = was_split _ _ _ c.fields_at-f.ensures (not-false _ c.if-not-f.false) in
-    says_nothing (closes_not _ _ c.requires split c.if-f-ne1.true) c.bad-then-f-ne1.ensures
+pub returns-then-branch-lt1 : goal.returns-then-branch-lt1
+returns-then-branch-lt1 c = closes_not _ _ c.in_ok-fields.ensures λ e. grind (arith, e)
+
+pub returns-else-this-lt2 : goal.returns-else-this-lt2
+returns-else-this-lt2 c = closes_not _ _ c.in_ok-fields.ensures λ e. grind (arith, e)
 
 pub returns : goal.returns
-returns c =
-    let split = was_split _ _ _ c.fields_at-f.ensures (not-false _ c.if-not-f.false) in
-    rw c.bare.ensures (means_close _ _ c.requires split c.if-f-ne1.false)
+returns c = closes _ _ c.in_ok-fields.ensures (omega arith)

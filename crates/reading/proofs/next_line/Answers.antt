@@ -1,33 +1,9 @@
--- With a line feed the next line starts behind it; without one the text is at its end.
-use mathlib.Core.Path.{◌≡◌}
-use native.Mathlib.Omega.{arith}
-use lib.ListN.{length}
-use Rattle.grammar.specs.Lines.{line_then, line_last}
+-- With a line feed the rest begins behind it; without one the text is its only line.
+use Rattle.reading.specs.Breaks.{first_then, first_last}
 use Rattle.reading.proofs.next_line.Goals as goal
 
-pub returns-then-end-text : goal.returns-then-end-text
-returns-then-end-text c =
-    let a = c.args in
-    let r = c.line_end-end.ensures in
-    record {
-      from = r.from;
-      to = r.to;
-      past = omega arith;
-      on = omega (arith, r.from);
-      inside = omega arith;
-      split = line_then a.text.now a.at _ r c.if-end-text.true;
-    }
-
 pub returns : goal.returns
-returns c =
-    let a = c.args in
-    let r = c.line_end-end.ensures in
-    let all : c.line_end-end.result ≡ length a.text.now = omega (arith, r.to, c.if-end-text.false) in
-    record {
-      from = r.from;
-      to = r.to;
-      past = omega arith;
-      on = omega arith;
-      inside = r.to;
-      split = line_last a.text.now a.at _ r (omega arith) all;
-    }
+returns c = first_then _ _ c.in-Some.ensures
+
+pub returns-in_default : goal.returns-in_default
+returns-in_default c = first_last _ c.if-is_empty.ensures c.in_default.ensures

@@ -1,41 +1,38 @@
 -- The set so far and the slots still to be added make the whole.
-use mathlib.Core.Path.{◌≡◌}
-use Prim.Native.Nat.{◌+◌, ◌-◌}
-use native.Mathlib.Nat.{mod-lt}
-use native.Mathlib.Omega.{arith}
+use Rattle.std.proofs.Common.{◌≡◌, ℕ, ◌+◌, ◌*◌, ◌%◌, ◌^◌, ◌<◌, ◌≤◌, ◌∙◌, shl_exact, one-mul, mod-lt, arith}
 use Rattle.line.specs.Rebuild.{run_next, run_end}
 use Rattle.rebuild.proofs.add_run.Goals as goal
 
-pub loop-i-init : goal.loop-i-init
-loop-i-init c =
-    let a = c.args in
-    let e : a.d + 0 ≡ a.d = omega arith in
-    let g : a.m - 0 ≡ a.m = omega arith in
-    (omega arith, rw (e, g))
+-- one bit, shifted to its place
+alone : (j : ℕ) → j < 64 → 1 * 2 ^ j % 18446744073709551616 ≡ 2 ^ j
+alone j h = shl_exact {a = 1} 1 j 64 (omega arith) (omega arith) ∙ one-mul (2 ^ j)
 
-pub overflow_add-start : goal.overflow_add-start
-overflow_add-start c = omega (arith, c.requires.sound.legal.n64)
-
-pub nonzero_rem-start : goal.nonzero_rem-start
-nonzero_rem-start c = omega (arith, c.requires.sound.legal.n1)
-
-pub alone-y-requires : goal.alone-y-requires
-alone-y-requires c =
-    let a = c.args in
-    let legal = c.requires.sound.legal in
-    omega (arith, legal.n64, mod-lt (a.start.0 + (a.d + c.loop-i.i)) legal.n1)
+alone_slot : (i n : ℕ) → 1 ≤ n → n ≤ 64 → 1 * 2 ^ (i % n) % 18446744073709551616 ≡ 2 ^ (i % n)
+alone_slot i n h l = alone (i % n) (omega (arith, mod-lt i h))
 
 pub overflow_add-y : goal.overflow_add-y
 overflow_add-y c =
     let a = c.args in
-    omega (arith, run_next a.task a.start.0 a.d a.m c.loop-i.i (omega arith))
+    let legal = a.cut.task.sound.legal in
+    let i = c.loop-i.i in
+    omega (
+      arith,
+      alone_slot (a.cut.start.0 + (a.d + i)) a.cut.task.wheel.n legal.n1 legal.n64,
+      run_next a.cut.task a.cut.start.0 a.d a.m i (omega arith),
+    )
 
 pub loop-i-preserved : goal.loop-i-preserved
 loop-i-preserved c =
     let a = c.args in
-    (omega arith, omega (arith, run_next a.task a.start.0 a.d a.m c.loop-i.i (omega arith)))
+    let legal = a.cut.task.sound.legal in
+    let i = c.loop-i.i in
+    omega (
+      arith,
+      alone_slot (a.cut.start.0 + (a.d + i)) a.cut.task.wheel.n legal.n1 legal.n64,
+      run_next a.cut.task a.cut.start.0 a.d a.m i (omega arith),
+    )
 
 pub returns : goal.returns
 returns c =
     let a = c.args in
-    omega (arith, run_end a.task a.start.0 (a.d + c.loop-i.i) a.m c.loop-i.i (omega arith))
+    omega (arith, run_end a.cut.task a.cut.start.0 (a.d + c.loop-i.i) a.m c.loop-i.i (omega arith))

@@ -1,11 +1,10 @@
 -- The set so far and what is left to add make the greedy choice.
-use mathlib.Core.Path.{◌≡◌}
-use Prim.Native.Nat.{◌+◌, ◌≤◌}
+use Rattle.std.proofs.Common.{◌≡◌, ◌+◌, ◌≤◌}
 use Rattle.line.specs.Rebuild.{greedy_set, left, Due}
 use Rattle.rebuild.proofs.rebuild.Given as goal
 
 abbrev pub invariant-loop-at : goal.invariant-loop-at
-invariant-loop-at l = (l.at.k ≤ l.k) × (l.at.slots + left l.task l.start.0 l.at.p l.at.k ≡ greedy_set l.task l.start.0 l.k) × Due l.task l.start.0 l.at.p l.at.k
+invariant-loop-at l = (l.at.k ≤ l.k) × (l.at.slots + left l.cut.task l.cut.start.0 l.at.p l.at.k ≡ greedy_set l.cut.task l.cut.start.0 l.k) × Due l.cut.task l.cut.start.0 l.at.p l.at.k
 
 abbrev pub decreases-loop-at : goal.decreases-loop-at
 decreases-loop-at l = l.at.k

@@ -1,39 +1,25 @@
 -- The slots from s on that stay are in y already, as bits 0, 1, ..; the loop goes down and takes in one slot more.
-use mathlib.Core.Path.{◌≡◌, sym, ◌∙◌}
-use mathlib.Core.Bool.{true, false}
-use native.Mathlib.Omega.{arith}
-use native.Mathlib.Nat.{sub_self, sub-zero}
+use Rattle.std.proofs.Common.{refl, false, arith}
+use Rattle.std.proofs.Math.Nat.{sub_self}
 use Rattle.rules.specs.Sets.{set_of}
-use Rattle.rows.specs.Slots.{set_down, half_small}
+use Rattle.rows.specs.Slots.{set_down, set_small_down}
 use Rattle.rows.proofs.still_free.Goals as goal
 
 pub loop-s-init : goal.loop-s-init
 unfolding set_of
-loop-s-init c = (omega arith, rw sub_self)
+loop-s-init c = rw sub_self
 
 pub overflow_mul-y : goal.overflow_mul-y
 overflow_mul-y c =
     let at = c.loop-s in
-    omega (arith, half_small _ _ at.s at.y (omega arith) at.invariant.0 at.invariant.1 (omega arith))
+    omega (arith, set_small_down _ _ at.s at.y (omega arith) (omega arith) at.invariant (omega arith) false 0 refl)
 
 pub overflow_add-y : goal.overflow_add-y
 overflow_add-y c =
     let at = c.loop-s in
-    omega (arith, half_small _ _ at.s at.y (omega arith) at.invariant.0 at.invariant.1 (omega arith))
-
-pub loop-s-preserved-then-b : goal.loop-s-preserved-then-b
-loop-s-preserved-then-b c =
-    let at = c.loop-s in
-    let more = set_down _ _ at.s at.y (omega arith) at.invariant.0 at.invariant.1 true (sym c.if-b.true ∙ c.stays-b.ensures) in
-    (omega arith, omega (arith, more))
+    omega (arith, set_small_down _ _ at.s at.y (omega arith) (omega arith) at.invariant (omega arith) _ _ c.from.ensures)
 
 pub loop-s-preserved : goal.loop-s-preserved
 loop-s-preserved c =
     let at = c.loop-s in
-    let more = set_down _ _ at.s at.y (omega arith) at.invariant.0 at.invariant.1 false (sym c.if-b.false ∙ c.stays-b.ensures) in
-    (omega arith, omega (arith, more))
-
-pub returns : goal.returns
-returns c =
-    let e : c.loop-s.s ≡ 0 = omega arith in
-    c.loop-s.invariant.1 ∙ rw (e, sub-zero)
+    set_down _ _ at.s at.y (omega arith) (omega arith) at.invariant _ _ c.stays.ensures c.from.ensures

@@ -1,5 +1,5 @@
 -- The tail of no slot goes before the others.
-use native.Mathlib.Omega.{arith}
+use Rattle.std.proofs.Common.{arith}
 use Rattle.line.specs.Rows.{tail_row_done}
 use Rattle.tails.proofs.tail_row.Goals as goal
 

@@ -1,0 +1,18 @@
+-- The call answers for the default wheel and 16 records, and its answer is printed.
+use Rattle.std.proofs.Common.{arith, ◌≡◌, length}
+use Rattle.grammar.specs.Short.{close_short}
+use Rattle.answering.specs.Lines.{closed}
+use Rattle.answering.proofs.Board.close.Goals as goal
+
+pub put_close-requires : goal.put_close-requires
+put_close-requires g c = omega (arith, c.requires, close_short c.args.flow c.close-answer.result)
+
+pub returns : goal.returns
+returns g c =
+    let long : length c.args.self.now.list ≡ 1024 = omega arith in
+    let answer = c.close-answer in
+    record {
+      answer = answer.result;
+      closes = closed _ _ _ _ long c.args.flow answer.result answer.ensures;
+      puts = c.put_close.ensures;
+    }

@@ -1,9 +1,0 @@
--- The loop goes down from the set of all free slots to the empty one.
-use Prim.Native.Nat.{◌≤◌}
-use Rattle.apart.proofs.best_of.Given as goal
-
-abbrev pub invariant-loop-y : goal.invariant-loop-y
-invariant-loop-y l = l.y ≤ l.free
-
-abbrev pub decreases-loop-y : goal.decreases-loop-y
-decreases-loop-y l = l.y

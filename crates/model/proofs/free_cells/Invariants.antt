@@ -1,9 +1,0 @@
--- The loop goes over the cells.
-use Rattle.std.proofs.Common.{◌-◌, ◌≤◌}
-use Rattle.model.proofs.free_cells.Given as goal
-
-abbrev pub invariant-loop-i : goal.invariant-loop-i
-invariant-loop-i l = l.i ≤ l.size
-
-abbrev pub decreases-loop-i : goal.decreases-loop-i
-decreases-loop-i l = l.size - l.i

@@ -1,9 +1,0 @@
--- The loop goes over the entries before.
-use Rattle.std.proofs.Common.{◌-◌, ◌≤◌}
-use Rattle.model.proofs.met.Given as goal
-
-abbrev pub invariant-loop-k : goal.invariant-loop-k
-invariant-loop-k l = l.k ≤ l.i
-
-abbrev pub decreases-loop-k : goal.decreases-loop-k
-decreases-loop-k l = l.i - l.k

@@ -1,7 +1,0 @@
--- Of 64 ones, all but the n lowest are shifted out.
-use native.Mathlib.Omega.{arith}
-use Rattle.rows.specs.Slots.{all_slots}
-use Rattle.rows.proofs.all_slots.Goals as goal
-
-pub returns : goal.returns
-returns c = all_slots c.args.w.n (omega arith)

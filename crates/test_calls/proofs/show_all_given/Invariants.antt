@@ -1,9 +1,0 @@
--- The loop goes over the numbers.
-use Rattle.std.proofs.Common.{◌-◌, ◌≤◌}
-use Rattle.test_calls.proofs.show_all_given.Given as goal
-
-abbrev pub invariant-loop-i : goal.invariant-loop-i
-invariant-loop-i l = l.i ≤ 16
-
-abbrev pub decreases-loop-i : goal.decreases-loop-i
-decreases-loop-i l = 16 - l.i

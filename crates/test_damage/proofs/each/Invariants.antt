@@ -1,9 +1,0 @@
--- The loop goes over the changes.
-use Prim.Native.Nat.{◌-◌, ◌≤◌}
-use Rattle.test_damage.proofs.each.Given as goal
-
-abbrev pub invariant-loop-k : goal.invariant-loop-k
-invariant-loop-k l = l.k ≤ l.end
-
-abbrev pub decreases-loop-k : goal.decreases-loop-k
-decreases-loop-k l = l.end - l.k

@@ -1,9 +1,0 @@
--- The loop goes over the bytes.
-use Rattle.std.proofs.Common.{◌≡◌, length, ◌-◌}
-use Rattle.test_lent.proofs.copied.Given as goal
-
-abbrev pub invariant-loop-i : goal.invariant-loop-i
-invariant-loop-i l = length l.bytes ≡ 4224
-
-abbrev pub decreases-loop-i : goal.decreases-loop-i
-decreases-loop-i l = 128 - l.i

@@ -1,9 +1,0 @@
--- The loop goes over the ways of the later condition.
-use Prim.Native.Nat.{◌-◌, ◌≤◌}
-use Rattle.test_pairs.proofs.with_later.Given as goal
-
-abbrev pub invariant-loop-way : goal.invariant-loop-way
-invariant-loop-way l = l.way ≤ l.end
-
-abbrev pub decreases-loop-way : goal.decreases-loop-way
-decreases-loop-way l = l.end - l.way
