@@ -39,14 +39,18 @@ struct Tally {
     large: u64,
 }
 
-// The number in the next field.
+// The number in the next field: digits, and no sign before them.
 fn next<T: FromStr<Err = ParseIntError>>(fields: &mut Split<char>) -> Option<T> {
-    fields.next()?.parse().ok()
+    let field = fields.next()?;
+    if field.starts_with('+') {
+        return None;
+    }
+    field.parse().ok()
 }
 
-// The vector that a line spells.
-fn read(line: &str) -> Option<Vector> {
-    let mut fields = line.split(' ');
+// The vector that a line spells. The arrow's head may be left out.
+fn read(line: &[u8]) -> Option<Vector> {
+    let mut fields = str::from_utf8(line).ok()?.split(' ');
     let wheel = Wheel {
         n: next(&mut fields)?,
         s: Words(next(&mut fields)?),
@@ -56,7 +60,8 @@ fn read(line: &str) -> Option<Vector> {
     let free = next(&mut fields)?;
     let words = Words(next(&mut fields)?);
     let limit = next(&mut fields)?;
-    if fields.next()? != "->" {
+    let arrow = fields.next()?;
+    if arrow != "->" && arrow != "-" {
         return None;
     }
     let no = next(&mut fields)?;
@@ -118,7 +123,7 @@ fn is_large(v: Vector) -> bool {
 
 impl Tally {
     // One line more.
-    fn note(&mut self, line: &str) {
+    fn note(&mut self, line: &[u8]) {
         self.vectors = self.vectors.wrapping_add(1);
         match read(line) {
             Some(v) if is_met(v) => {
@@ -131,11 +136,16 @@ impl Tally {
     }
 }
 
-// All lines of a text.
-fn vectors(text: &str) -> Tally {
+// All lines of a text, which are no more than its bytes.
+fn vectors(text: &[u8]) -> Tally {
     let mut tally = Tally::default();
-    for line in text.lines() {
+    let mut rest = text;
+    for _ in 0..text.len() {
+        let Some((line, others)) = reading::next_line(rest) else {
+            break;
+        };
         tally.note(line);
+        rest = others;
     }
     tally
 }
@@ -158,10 +168,7 @@ fn file(rt: HostRuntime, name: &str) -> io::Result<()> {
     if 65536 <= n {
         return println!(rt; "too long");
     }
-    match str::from_utf8(&room[..n]) {
-        Ok(text) => show(rt, vectors(text)),
-        Err(_) => Err(io::Error::from(io::ErrorKind::InvalidData)),
-    }
+    show(rt, vectors(&room[..n]))
 }
 
 fn main(rt: HostRuntime) -> io::Result<()> {
