@@ -19,9 +19,13 @@ use Rattle.grammar.specs.Listing.{wheel, State, ClosesFrom, ReportsFrom, Step, o
 use Rattle.grammar.specs.Short.{open_short, close_short, report_short, bad_short, reads_long}
 use Rattle.answering.specs.declared.Board.{Board}
 
--- the state that table and list stand for
+-- the state that a table and the bytes of a list stand for
+abbrev pub state_of : List ℕ → List ℕ → State
+state_of t b = record { table = t; list = list_in b }
+
+-- the state of a board
 abbrev pub state : {N : ℕ} → Board N → State
-state b = record { table = b.table; list = list_in b.list }
+state b = state_of b.table b.list
 
 -- the page has room for so many bytes
 abbrev pub RoomFor : ℕ → Page → Type 0
