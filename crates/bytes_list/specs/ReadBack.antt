@@ -52,14 +52,19 @@ module _ (b part : List ℕ) (at : ℕ) (cut : part ≡ take (at + 64 - at) (dro
   byte_part : (i : ℕ) → i < 64 → get_or part i 0 ≡ get_or b (at + i) 0
   byte_part i h = rw cut (get_or-take (at + 64 - at) (drop at b) i 0 (omega arith) ∙ get_or-drop at b i 0)
 
-  pub decoded_part : record_from (numbers_at part 0) ≡ decoded b at
-  unfolding decoded number_at
-  decoded_part =
-      record_same (numbers_at part 0) (numbers_at b at)
-      λ j h.
+  number_part : (j : ℕ) → j < 32 → number_at part 0 j ≡ number_at b at j
+  unfolding number_at
+  number_part j h =
       let low : get_or part (0 + 2 * j) 0 ≡ get_or b (at + 2 * j) 0 = rw zero-add (byte_part (2 * j) (omega arith)) in
       let high : get_or part (0 + 2 * j + 1) 0 ≡ get_or b (at + 2 * j + 1) 0 = rw (zero-add, add_assoc) (byte_part (2 * j + 1) (omega arith)) in
       rw (low, high)
+
+  pub formed_part : formed (numbers_at part 0) ≡ formed (numbers_at b at)
+  formed_part = formed_same (numbers_at part 0) (numbers_at b at) number_part
+
+  pub decoded_part : record_from (numbers_at part 0) ≡ decoded b at
+  unfolding decoded
+  decoded_part = record_same (numbers_at part 0) (numbers_at b at) number_part
 
 -- ---- a record's own numbers
 

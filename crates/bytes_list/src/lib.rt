@@ -57,12 +57,21 @@ fn rest_zero(bytes: &[u8; 64]) -> bool
     true
 }
 
-// Whether the bytes are a record.
+// Whether the numbers are those of a record.
 #[tactic(auto, unfolding(crate::specs::Layout::formed))]
-pub fn is_record(bytes: &[u8; 64]) -> bool
+fn formed(bytes: &[u8; 64]) -> bool
     ensures { result ≡ formed (numbers_at bytes.now 0) }
 {
     known_state(bytes) && rest_zero(bytes)
+}
+
+// Whether the 64 bytes from `at` on are a record.
+pub fn is_record(bytes: &[u8], at: usize) -> bool
+    requires { at + 64 ≤ length bytes.now }
+    ensures { result ≡ formed (numbers_at bytes.now at) }
+{
+    let record = bytes[at..at + 64].as_array().unwrap();
+    formed(record)
 }
 
 // The state; where the bytes are no record, open with a demand of no words, which no list may hold.
@@ -70,7 +79,7 @@ pub fn is_record(bytes: &[u8; 64]) -> bool
 fn state_at(bytes: &[u8; 64]) -> State
     ensures { result ≡ state_from (numbers_at bytes.now 0) }
 {
-    if !is_record(bytes) {
+    if !formed(bytes) {
         return State::Open(Demand {
             words: Words(0),
             deadline: 0,

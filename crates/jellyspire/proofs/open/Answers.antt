@@ -1,6 +1,6 @@
 -- The answers of the call, in an opening's words.
-use Rattle.jellyspire.specs.Lent.{opens_lent}
+use Rattle.jellyspire.specs.Lent.{performed_opens}
 use Rattle.jellyspire.proofs.open.Goals as goal
 
 pub returns : goal.returns
-returns c = opens_lent _ _ _ _ _ _ _ _ _ _ c.«open».ensures
+returns c = performed_opens _ _ _ _ _ _ _ _ _ _ c.«open».ensures
