@@ -150,6 +150,9 @@ pub fn largest_gap(n: u64, x: u64) -> u64 {
 
 // The largest gap of x by the trainees' mistake: the gap over the wrap is not looked at.
 pub fn largest_gap_before_wrap(n: u64, x: u64) -> u64 {
+    if 64 < n {
+        return 0;
+    }
     let mut longest = 0;
     let mut last = None;
     for i in 0..n {
@@ -325,7 +328,8 @@ impl Asked {
         y & self.free == y && self.words <= self.wheel.words(y)
     }
 
-    // Whether some set of free slots delivers the words: a subset is no larger as a number.
+    // Whether some set of free slots delivers the words: a subset is no larger as a number, and all free
+    // slots, which deliver the most, are asked first.
     fn some_delivers(self) -> bool {
         (0..=self.free).rev().any(|y| self.delivers(y))
     }
@@ -454,12 +458,14 @@ impl Listed {
             .unwrap_or(0)
     }
 
-    // Whether some set of free slots delivers the words: a subset is no larger as a number.
+    // Whether some set of free slots delivers the words: a subset is no larger as a number, and all free
+    // slots, which deliver the most, are asked first.
     fn some_delivers(&self, asked: Asked) -> bool
         requires { asked.free < 1024 }
     {
         self.sets[..=asked.free as usize]
             .iter()
+            .rev()
             .any(|set| set.is_of(asked.free) && asked.words <= set.words)
     }
 

@@ -11,13 +11,26 @@ ghost use Rattle.std.specs.Prelude.{◌≡◌, true, ◌≤◌, ◌<◌};
 
 use apart::{Asked, Grant, No, Wheel};
 
-// A choice of positions: its words, and its image, in which position i is bit 63 - i. Of two choices
-// of as many positions, the larger image has the smaller position where they first differ: so the
-// better choice is the larger one.
-#[derive(Clone, Copy, PartialEq, Eq, PartialOrd, Ord)]
+// A choice of positions: its words, and its image, in which position i is bit 63 - i. Every choice
+// delivers words: no words stand for no choice. With an Option in each entry the table takes half as
+// much room again, and clearing it and comparing its entries takes longer than all the rest.
+#[derive(Clone, Copy)]
 struct Choice {
     words: u64,
     image: u64,
+}
+
+// No choice.
+const NONE: Choice = Choice { words: 0, image: 0 };
+
+// The choice with more words, or with the larger image where these are the same: of two choices of as
+// many positions, the larger image has the smaller position where they first differ.
+fn better_of(a: Choice, b: Choice) -> Choice {
+    if a.words < b.words || a.words == b.words && a.image < b.image {
+        b
+    } else {
+        a
+    }
 }
 
 // ---- the table
@@ -26,16 +39,16 @@ struct Choice {
 // for the j at hand, begun[i] of those that begin at i.
 #[derive(Drop)]
 struct Table {
-    behind: [[Option<Choice>; 64]; 64],
-    begun: [Option<Choice>; 64],
+    behind: [[Choice; 64]; 64],
+    begun: [Choice; 64],
 }
 
 impl Table {
     // A table of nothing.
     fn empty() -> Table {
         Table {
-            behind: [[None; 64]; 64],
-            begun: [None; 64],
+            behind: [[NONE; 64]; 64],
+            begun: [NONE; 64],
         }
     }
 }
@@ -76,53 +89,56 @@ fn opens(asked: Asked, i: u64) -> bool
 
 // A run that ends at e, with the best choice of `left` slots behind it. With none left, the gap over
 // the wrap is looked at, from e to position N.
-fn joined(table: &Table, asked: Asked, run: Choice, e: u64, left: u64) -> Option<Choice>
+fn joined(table: &Table, asked: Asked, run: Choice, e: u64, left: u64) -> Choice
     requires { (e < 64) × (left < 64) }
 {
     if left == 0 {
         return if asked.wheel.n <= e.wrapping_add(asked.limit) {
-            Some(run)
+            run
         } else {
-            None
+            NONE
         };
     }
-    let rest = table.behind[left as usize][e as usize]?;
-    Some(Choice {
+    let rest = table.behind[left as usize][e as usize];
+    if rest.words == 0 {
+        return NONE;
+    }
+    Choice {
         words: run.words.wrapping_add(rest.words),
         image: run.image | rest.image,
-    })
+    }
 }
 
 // The best choice of j slots that begins with a run from position i: a run of each length, and the
 // best behind it.
-fn from(table: &Table, asked: Asked, i: u64, j: u64) -> Option<Choice>
+fn from(table: &Table, asked: Asked, i: u64, j: u64) -> Choice
     requires { j ≤ 64 }
 {
-    let mut best = None;
-    let mut run = Choice { words: 0, image: 0 };
+    let mut best = NONE;
+    let mut run = NONE;
     for q in 0..j {
         let e = i.wrapping_add(q);
         if !opens(asked, e) {
             return best;
         }
         run = longer(asked.wheel, run, i, q);
-        best = joined(table, asked, run, e, j - q - 1).max(best);
+        best = better_of(joined(table, asked, run, e, j - q - 1), best);
     }
     best
 }
 
 // The best choice that begins behind e, a position after it left out, with no gap above the limit.
-fn next_from(table: &Table, asked: Asked, e: u64) -> Option<Choice>
+fn next_from(table: &Table, asked: Asked, e: u64) -> Choice
     requires { asked.wheel.n ≤ 64 }
 {
     let n = asked.wheel.n;
-    let mut best = None;
+    let mut best = NONE;
     for gap in 2..=asked.limit.min(n) {
         let i = e.wrapping_add(gap);
         if n <= i {
             return best;
         }
-        best = table.begun[i as usize].max(best);
+        best = better_of(table.begun[i as usize], best);
     }
     best
 }
@@ -156,9 +172,8 @@ fn fewest(table: &mut Table, asked: Asked, most: u64) -> Option<(u64, Choice)>
 {
     for j in 1..=most {
         begin_all(table, asked, j);
-        if let Some(got) = table.begun[0]
-            && asked.words <= got.words
-        {
+        let got = table.begun[0];
+        if asked.words <= got.words {
             return Some((j, got));
         }
         follow_all(table, asked, j);
