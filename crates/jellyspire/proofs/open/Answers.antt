@@ -1,6 +1,6 @@
--- The answers of the call, in an opening's words.
-use Rattle.jellyspire.specs.Lent.{opens_lent}
+-- The answers of the call, on the chip of wheel and table, in an opening's words.
+use Rattle.jellyspire.specs.Lent.{performed_on, opens_lent}
 use Rattle.jellyspire.proofs.open.Goals as goal
 
 pub returns : goal.returns
-returns c = opens_lent _ _ _ _ _ _ _ _ _ _ c.«open».ensures
+returns c = opens_lent _ _ _ _ _ _ _ _ _ _ (performed_on _ _ c.chip_of-chip.ensures _ _ _ _ _ _ c.«open».ensures)
