@@ -15,14 +15,14 @@ use lent::FlowList;
 use rules::{Chip, Record};
 
 // Whether wheel, table length and list length are good, for a list of n records.
-fn ready(table: &[u8], chip: Chip, n: usize) -> bool
+pub fn ready(table: &[u8], chip: Chip, n: usize) -> bool
     ensures { Tells result (Ready chip table.now n) }
 {
     measure::legal(chip.wheel) && table::is_table(table, chip) && 1 <= n && n <= 64
 }
 
 // How many cells the record r, number f counted from 0, claims, if it is in order.
-fn claimed(table: &[u8], chip: Chip, r: Record, f: usize) -> Option<usize>
+pub fn claimed(table: &[u8], chip: Chip, r: Record, f: usize) -> Option<usize>
     requires ready { Legal chip.wheel × Tabled chip.channels table.now }
     requires f_bound { f < 64 }
     ensures { MatchOption result (¬ Ordered chip table.now f r) (λ k. Claimed chip table.now f r k) }

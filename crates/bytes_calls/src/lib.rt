@@ -12,14 +12,16 @@ use rules::{Call, Chip, Demand, Grant, Path, Refusal, Totals, Wheel, Yes};
 pub fn agree(table: &[u8], list: &[u8], w: Wheel) -> bool
     ensures { Tells result (AgreesBytes (chip_of w table.now) table.now list.now) }
 {
-    perform::agree(table, list, w)
+    let chip = table::chip_of(table, w);
+    perform::agree(table, list, chip)
 }
 
 // Reports free and held cells.
 pub fn report(table: &[u8], list: &[u8], w: Wheel) -> Result<Totals, Refusal>
     ensures { ReportsBytes (chip_of w table.now) table.now list.now result }
 {
-    perform::report(table, list, w)
+    let chip = table::chip_of(table, w);
+    perform::report(table, list, chip)
 }
 
 // Performs a call.
@@ -42,13 +44,15 @@ pub fn open(
     ensures { OpensBytes (chip_of w table.old) table.old list.old path len flow demand
         table.new list.new result }
 {
+    let chip = table::chip_of(table, w);
     let path = Path { entries: path, len };
-    perform::open(table, list, w, flow, path, demand)
+    perform::open(table, list, chip, flow, path, demand)
 }
 
 // Closes a flow.
 pub fn close(table: &mut [u8], list: &mut [u8], w: Wheel, flow: usize) -> Result<usize, Refusal>
     ensures { ClosesBytes (chip_of w table.old) table.old list.old flow table.new list.new result }
 {
-    perform::close(table, list, w, flow)
+    let chip = table::chip_of(table, w);
+    perform::close(table, list, chip, flow)
 }

@@ -1,5 +1,6 @@
--- What a call decides when it sees one record of the list and is told of the rest only whether it agrees with the table.
--- The orders are those of `rules`; `disagree` is 4's condition.
+-- What a call decides when it sees one record of the list and is told of the rest only whether it agrees with the table, and if
+-- so how many cells its flows hold: the report's gate hands that number on (`Gates`), and nothing else that is said here names
+-- it. The orders are those of `rules`; `disagree` is 4's condition.
 use Rattle.std.specs.Prelude.{◌≡◌, false, is_some, List, ℕ, Option, Some, Result, Ok, Err}
 use Rattle.rules.specs.declared.State.{State}
 use Rattle.rules.specs.declared.Record.{Record}

@@ -25,6 +25,11 @@ module _ (chip : Chip) (t : List ℕ) (list : List Record) where
   abbrev pub Performed : Call → List ℕ → List Record → Result Yes Refusal → Type 0
   Performed = PerformsOn length (λ l. l) PutRecord chip t list
 
+-- the chip that was made is that of wheel and table
+pub performed_on : (made chip : Chip) → made ≡ chip → (t : List ℕ) (list : List Record) (call : Call) (t' : List ℕ) (list' : List Record)
+    (a : Result Yes Refusal) → Performed made t list call t' list' a → Performed chip t list call t' list' a
+performed_on made chip e t list call t' list' a p = subst (λ x. Performed x t list call t' list' a) e p
+
 module _ (w : Wheel) (t : List ℕ) (list : List Record) where
   abbrev pub AgreesLent : Type 0
   AgreesLent = Agrees (chip_of w t) t (length list) list

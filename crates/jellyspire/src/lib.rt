@@ -28,14 +28,16 @@ pub fn select(w: Wheel, free: u64, words: Words, limit: u16) -> Result<Grant, Re
 pub fn agree(table: &[u8], list: &[Record], w: Wheel) -> bool
     ensures { Tells result (AgreesLent w table.now list.now) }
 {
-    perform::agree(table, list, w)
+    let chip = table::chip_of(table, w);
+    perform::agree(table, list, chip)
 }
 
 // Reports free and held cells.
 pub fn report(table: &[u8], list: &[Record], w: Wheel) -> Result<Totals, Refusal>
     ensures { ReportsLent w table.now list.now result }
 {
-    perform::report(table, list, w)
+    let chip = table::chip_of(table, w);
+    perform::report(table, list, chip)
 }
 
 // Performs a call.
@@ -62,13 +64,15 @@ pub fn open(
 ) -> Result<Grant, Refusal>
     ensures { OpensLent w table.old list.old path len flow demand table.new list.new result }
 {
+    let chip = table::chip_of(table, w);
     let path = Path { entries: path, len };
-    perform::open(table, list, w, flow, path, demand)
+    perform::open(table, list, chip, flow, path, demand)
 }
 
 // Closes a flow.
 pub fn close(table: &mut [u8], list: &mut [Record], w: Wheel, flow: usize) -> Result<usize, Refusal>
     ensures { ClosesLent w table.old list.old flow table.new list.new result }
 {
-    perform::close(table, list, w, flow)
+    let chip = table::chip_of(table, w);
+    perform::close(table, list, chip, flow)
 }

@@ -4,13 +4,12 @@
 #![tactic(auto)]
 
 ghost use Rattle.rules.specs.Tells.{Tells};
-ghost use Rattle.rules.specs.Paths.{chip_of};
 ghost use Rattle.rules.specs.Orders.{Agrees, opening, closing};
 ghost use Rattle.rules.specs.Promises.{of_opened, of_cleared, Reports};
 ghost use Rattle.perform.specs.Performed.{RecordOf, PerformsOn};
 
 use lent::FlowList;
-use rules::{Call, Chip, Demand, Grant, Path, Record, Refusal, Totals, Wheel, Yes};
+use rules::{Call, Chip, Demand, Grant, Path, Record, Refusal, Totals, Yes};
 
 // The record of a flow; the closed one where the list has no such flow.
 fn flow_record<T: FlowList>(list: &[T], flow: usize) -> Record
@@ -46,15 +45,14 @@ pub fn perform<T: FlowList>(
 pub fn open<T: FlowList>(
     table: &mut [u8],
     list: &mut [T],
-    w: Wheel,
+    chip: Chip,
     flow: usize,
     path: Path,
     demand: Demand,
 ) -> Result<Grant, Refusal>
-    ensures { PerformsOn T.count T.records T.Put (chip_of w table.old) table.old list.old (opening path.entries path.len flow demand)
+    ensures { PerformsOn T.count T.records T.Put chip table.old list.old (opening path.entries path.len flow demand)
         table.new list.new (of_opened result) }
 {
-    let chip = table::chip_of(table, w);
     let call = changes::to_open(flow, path, demand);
     changes::opened_as(perform(table, list, chip, call))
 }
@@ -63,30 +61,27 @@ pub fn open<T: FlowList>(
 pub fn close<T: FlowList>(
     table: &mut [u8],
     list: &mut [T],
-    w: Wheel,
+    chip: Chip,
     flow: usize,
 ) -> Result<usize, Refusal>
-    ensures { PerformsOn T.count T.records T.Put (chip_of w table.old) table.old list.old (closing flow)
+    ensures { PerformsOn T.count T.records T.Put chip table.old list.old (closing flow)
         table.new list.new (of_cleared result) }
 {
-    let chip = table::chip_of(table, w);
     let call = changes::to_close(flow);
     changes::cleared_as(perform(table, list, chip, call))
 }
 
 // Whether wheel, table and list are good, and table and list agree.
-pub fn agree<T: FlowList>(table: &[u8], list: &[T], w: Wheel) -> bool
-    ensures { Tells result (Agrees (chip_of w table.now) table.now (T.count list.now) (T.records list.now)) }
+pub fn agree<T: FlowList>(table: &[u8], list: &[T], chip: Chip) -> bool
+    ensures { Tells result (Agrees chip table.now (T.count list.now) (T.records list.now)) }
 {
-    let chip = table::chip_of(table, w);
     agree::held(table, list, chip).is_some()
 }
 
 // Reports free and held cells.
-pub fn report<T: FlowList>(table: &[u8], list: &[T], w: Wheel) -> Result<Totals, Refusal>
-    ensures { Reports (chip_of w table.now) table.now (T.count list.now) (T.records list.now) result }
+pub fn report<T: FlowList>(table: &[u8], list: &[T], chip: Chip) -> Result<Totals, Refusal>
+    ensures { Reports chip table.now (T.count list.now) (T.records list.now) result }
 {
-    let chip = table::chip_of(table, w);
     let counted = agree::held(table, list, chip);
     let held = decide::enter(table, chip, T::count(list), counted)?;
     let cells = chip.channels * chip.wheel.n;

@@ -1,4 +1,4 @@
--- The call that was made of what was asked, on the chip of wheel and table, in a closing's words.
+-- The call that was made of what was asked, in a closing's words.
 use Rattle.std.proofs.Common.{refl}
 use Rattle.perform.specs.Joined.{as_cleared}
 use Rattle.perform.proofs.close.Goals as goal
@@ -6,4 +6,4 @@ use Rattle.perform.proofs.close.Goals as goal
 pub returns : goal.returns
 returns g c =
     let l = g.T.FlowList in
-    as_cleared l.count l.records l.Put _ _ _ _ _ _ c.chip_of-chip.ensures _ _ c.to_close-call.ensures _ c.perform.ensures _ refl _ c.cleared_as.ensures
+    as_cleared l.count l.records l.Put _ _ _ _ _ _ _ c.to_close-call.ensures _ c.perform.ensures _ refl _ c.cleared_as.ensures

@@ -1,5 +1,5 @@
--- The gate's refusal, or the totals, on the chip of wheel and table.
-use Rattle.std.specs.Prelude.{◌-◌, ◌*◌, Ok, Err}
+-- The gate's refusal, or the totals.
+use Rattle.std.specs.Prelude.{Ok, Err}
 use Rattle.std.proofs.Common.{subst, arith}
 use Rattle.std.proofs.Math.Nat.{mul-le-mul}
 use Rattle.std.proofs.lemmas.Result.{err_from_is_err_and}
@@ -14,36 +14,28 @@ pub returns-in_err-held : goal.returns-in_err-held
 unfolding Gates Reports
 returns-in_err-held g c =
     let a = c.args in
-    let l = g.T.FlowList in
     let p = err_from_is_err_and c.from_residual.result c.from_residual.ensures.1 in
     let q = c.in_err-held.field-0.0 in
-    let gate = subst (λ n. Gates c.chip_of-chip.result a.table.now n c.held-counted.result (Err q)) c.count.ensures c.in_err-held.ensures in
-    rw (p.1, p.2)
-    (subst (λ x. Reports x a.table.now (l.count a.list.now) (l.records a.list.now) (Err q)) c.chip_of-chip.ensures
-    (report_refused _ _ _ _ _ c.held-counted.ensures.agree (number q) gate))
+    let gate = subst (λ n. Gates a.chip a.table.now n c.held-counted.result (Err q)) c.count.ensures c.in_err-held.ensures in
+    rw (p.1, p.2) (report_refused _ _ _ _ _ c.held-counted.ensures.agree (number q) gate)
 
 pub overflow_mul-cells : goal.overflow_mul-cells
 overflow_mul-cells g c =
     let a = c.args in
-    let gate = subst (λ n. Gates c.chip_of-chip.result a.table.now n c.held-counted.result (Ok c.in_ok-held.held)) c.count.ensures c.in_ok-held.ensures in
+    let gate = subst (λ n. Gates a.chip a.table.now n c.held-counted.result (Ok c.in_ok-held.held)) c.count.ensures c.in_ok-held.ensures in
     let ready = checked_ready _ _ _ _ (entered _ _ _ _ _ c.held-counted.ensures.held _ gate).0 in
     omega (arith, mul-le-mul ready.tabled.c64 ready.legal.n64)
 
 pub overflow_sub-result : goal.overflow_sub-result
 overflow_sub-result g c =
     let a = c.args in
-    let gate = subst (λ n. Gates c.chip_of-chip.result a.table.now n c.held-counted.result (Ok c.in_ok-held.held)) c.count.ensures c.in_ok-held.ensures in
+    let gate = subst (λ n. Gates a.chip a.table.now n c.held-counted.result (Ok c.in_ok-held.held)) c.count.ensures c.in_ok-held.ensures in
     let (passes, held) = entered _ _ _ _ _ c.held-counted.ensures.held _ gate in
     omega (arith, held, report_room _ _ _ _ _ c.held-counted.ensures.agree passes)
 
 pub returns : goal.returns
 returns g c =
     let a = c.args in
-    let l = g.T.FlowList in
-    let chip = c.chip_of-chip.result in
-    let gate = subst (λ n. Gates chip a.table.now n c.held-counted.result (Ok c.in_ok-held.held)) c.count.ensures c.in_ok-held.ensures in
+    let gate = subst (λ n. Gates a.chip a.table.now n c.held-counted.result (Ok c.in_ok-held.held)) c.count.ensures c.in_ok-held.ensures in
     let (passes, held) = entered _ _ _ _ _ c.held-counted.ensures.held _ gate in
-    subst
-    (λ x. Reports x a.table.now (l.count a.list.now) (l.records a.list.now)
-    (Ok (record { free = chip.channels * chip.wheel.n - c.in_ok-held.held; held = c.in_ok-held.held })))
-    c.chip_of-chip.ensures (report_told _ _ _ _ _ c.held-counted.ensures.agree passes _ held)
+    report_told _ _ _ _ _ c.held-counted.ensures.agree passes _ held
