@@ -12,8 +12,8 @@ ghost use Rattle.std.specs.Prelude.{◌≡◌, true, ◌≤◌, ◌<◌};
 use apart::{Asked, Grant, No, Wheel};
 
 // A choice of positions: its words, and its image, in which position i is bit 63 - i. Every choice
-// delivers words: no words stand for no choice. With an Option in each entry the table takes half as
-// much room again, and clearing it and comparing its entries takes longer than all the rest.
+// delivers words: no words stand for no choice. An Option in each entry takes half as much room again,
+// and is slower to fill and to compare (docs/DESIGN-PASS.md).
 #[derive(Clone, Copy)]
 struct Choice {
     words: u64,
