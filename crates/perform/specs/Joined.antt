@@ -231,13 +231,16 @@ pub entered : (chip : Chip) (t : List ℕ) (n : ℕ) (list : List Record) (held 
 unfolding Gates
 entered chip t n list held known k g = (through chip t n held k g, subst (λ o. IfSome o (λ k. k ≡ held_cells chip.wheel n list)) g.1 known)
 
--- ---- opening and closing: the call is made from what was asked, and the answer is told in their words
+-- ---- opening and closing: the chip is made from wheel and table, the call from what was asked, and the answer is told in
+-- their words
 
 module _ {A : Type 0} (count : List A → ℕ) (records : List A → List Record) (Put : List A → ℕ → Record → List A → Type 0)
-    (chip : Chip) (t : List ℕ) (l : List A) (t' : List ℕ) (l' : List A) (call asked : Call) (asked-is : call ≡ asked)
-    (a : Result Yes Refusal) (p : PerformsOn count records Put chip t l call t' l' a) where
+    (t : List ℕ) (l : List A) (t' : List ℕ) (l' : List A) (chip made : Chip) (made-is : made ≡ chip) (call asked : Call) (asked-is : call ≡ asked)
+    (a : Result Yes Refusal) (p : PerformsOn count records Put made t l call t' l' a) where
   done : PerformsOn count records Put chip t l asked t' l' a
-  done = subst (λ x. PerformsOn count records Put chip t l x t' l' a) asked-is p
+  done =
+      subst (λ x. PerformsOn count records Put x t l asked t' l' a) made-is
+      (subst (λ x. PerformsOn count records Put made t l x t' l' a) asked-is p)
 
   pub as_opened : (path : List ℕ) (m f : ℕ) (d : Demand) → asked ≡ opening path m f d → (o : Result Grant Refusal) → o ≡ to_opened a
       → PerformsOn count records Put chip t l (opening path m f d) t' l' (of_opened o)

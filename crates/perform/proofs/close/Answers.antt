@@ -6,4 +6,4 @@ use Rattle.perform.proofs.close.Goals as goal
 pub returns : goal.returns
 returns g c =
     let l = g.T.FlowList in
-    as_cleared l.count l.records l.Put _ _ _ _ _ _ _ c.to_close-call.ensures _ c.perform.ensures _ refl _ c.cleared_as.ensures
+    as_cleared l.count l.records l.Put _ _ _ _ _ _ refl _ _ c.to_close-call.ensures _ c.perform.ensures _ refl _ c.cleared_as.ensures
